@@ -19,7 +19,7 @@ use Rattle.dover_top.specs.Words.{IsFormed, IsScheduleForm, factor_words, form_w
 use Rattle.dover_top.specs.declared.request.Request.{Request}
 use Rattle.dover_top.specs.declared.request.Request.TheVariants.{Serve, Judge, Report, Trial, Bait, Ask, Lanes, Pause}
 use Rattle.dover_top.specs.declared.request.Request.TheVariants.{Resume, Unroll, Duel, Draw, Sure, Budget, Ratio}
-use Rattle.dover_top.specs.declared.request.Request.TheVariants.{Schedule}
+use Rattle.dover_top.specs.declared.request.Request.TheVariants.{Schedule, ReportTasks}
 use Rattle.feed_words.specs.declared.serve.at_end.AtEnd.{AtEnd}
 use Rattle.feed_words.specs.declared.serve.at_end.AtEnd.TheVariants as ends
 use Rattle.question_words.specs.declared.question.Question.TheVariants.{Feasible, Best, Compare, Loss}
@@ -78,10 +78,12 @@ schedule_form_of words = let word = word_at 2 words in
     if bytes_eq word (codes "timeline") then any.Timeline (window_of (drop 3 words))
     else any.Svg (window_of (drop 3 words)))
 
--- what words ask for that begin with the word for a report, by whether the next one is that for any schedule
-abbrev report_by : (any : Bool) → List (List ℕ) → Request
-report_by true words = Schedule (schedule_form_of words)
-report_by false words = Report (form_of words)
+-- what words ask for that begin with the word for a report, by whether the next one is that for any schedule, or for
+-- tasks
+abbrev report_by : (any tasks : Bool) → List (List ℕ) → Request
+report_by true tasks words = Schedule (schedule_form_of words)
+report_by false true words = ReportTasks
+report_by false false words = Report (form_of words)
 
 -- what is done where the input ends that a word names
 abbrev end_of : List ℕ → AtEnd
@@ -93,7 +95,7 @@ request_of words =
     if bytes_eq (word_at 0 words) (codes "serve") then Serve else (
     if bytes_eq (word_at 0 words) (codes "judge") then Judge else (
     if bytes_eq (word_at 0 words) (codes "report")
-    then report_by (bytes_eq (word_at 1 words) (codes "any")) words else (
+    then report_by (bytes_eq (word_at 1 words) (codes "any")) (bytes_eq (word_at 1 words) (codes "tasks")) words else (
     if bytes_eq (word_at 0 words) (codes "trial")
     then Trial (number_of (word_at 1 words)) (number_of (word_at 2 words)) (ratio_at 3 words) else (
     if bytes_eq (word_at 0 words) (codes "bait") then Bait (baited_at words) (number_of (word_at 3 words)) else (
@@ -194,6 +196,7 @@ is_read words (Schedule (any.Timeline (Some w))) asks = ap request_of asks.row
 is_read words (Schedule (any.Svg None)) asks = ap request_of asks.row
 is_read words (Schedule (any.Svg (Some w))) asks = ap request_of asks.row
     ∙ ap (λ v. Schedule (any.Svg (Some v))) (window_same w asks.formed.0 asks.formed.1)
+is_read words ReportTasks asks = ap request_of asks
 is_read words (Trial seed count k) asks = ap request_of asks.row
     ∙ ap (λ n. Trial n (number_of (decimal count)) (ratio_at 0 (decimal k.p ∷ decimal k.q ∷ [])))
     (number_same seed (omega (arith, asks.small)))
@@ -243,18 +246,22 @@ pub asks_read : (word : String Global) (words : List (String Global)) (r : Reque
 asks_read word words r text is asks =
     subst (Asks (word ∷ words)) (sym (is_read (word ∷ words) r asks) ∙ ap (λ w. request_of (w ∷ spelled words)) is) asks
 
--- words for a report name its form, or that of a report on a schedule
+-- words for a report name its form, or that of a report on a schedule, or are that for tasks
 pub asks_report : (word : String Global) (words : List (String Global)) (r : Request)
     → string_bytes word ≡ codes "report" → Asks (word ∷ words) r
     → ((form : Form) × (spelled words ≡ form_words form) × IsFormed form)
-    ⊎ ((form : ScheduleForm) × (spelled words ≡ codes "any" ∷ schedule_words form) × IsScheduleForm form)
+    ⊎ (((form : ScheduleForm) × (spelled words ≡ codes "any" ∷ schedule_words form) × IsScheduleForm form)
+    ⊎ (spelled words ≡ codes "tasks" ∷ []))
 asks_report word words r is asks =
-    by (bytes_eq (word_at 0 (spelled words)) (codes "any")) (asks_read word words r (codes "report") is asks) where
-      by : (b : Bool) → Asks (word ∷ words) (report_by b (codes "report" ∷ spelled words))
+    by (bytes_eq (word_at 0 (spelled words)) (codes "any")) (bytes_eq (word_at 0 (spelled words)) (codes "tasks"))
+    (asks_read word words r (codes "report") is asks) where
+      by : (b c : Bool) → Asks (word ∷ words) (report_by b c (codes "report" ∷ spelled words))
           → ((form : Form) × (spelled words ≡ form_words form) × IsFormed form)
-          ⊎ ((form : ScheduleForm) × (spelled words ≡ codes "any" ∷ schedule_words form) × IsScheduleForm form)
-      by true it = inr (_, ap (drop 1) it.row, it.formed)
-      by false it = inl (_, ap (drop 1) it.row, it.formed)
+          ⊎ (((form : ScheduleForm) × (spelled words ≡ codes "any" ∷ schedule_words form) × IsScheduleForm form)
+          ⊎ (spelled words ≡ codes "tasks" ∷ []))
+      by true c it = inr (inl (_, ap (drop 1) it.row, it.formed))
+      by false true it = inr (inr (ap (drop 1) it))
+      by false false it = inl (_, ap (drop 1) it.row, it.formed)
 
 -- ---- words one by one
 

@@ -13,7 +13,7 @@ use Rattle.dover_top.specs.BudgetTasks.{KeepsBudgets}
 use Rattle.dover_top.specs.declared.request.Request.{Request}
 use Rattle.dover_top.specs.declared.request.Request.TheVariants.{Serve, Judge, Report, Trial, Bait, Ask, Lanes, Pause}
 use Rattle.dover_top.specs.declared.request.Request.TheVariants.{Resume, Unroll, Duel, Draw, Sure, Budget, Ratio}
-use Rattle.dover_top.specs.declared.request.Request.TheVariants.{Schedule}
+use Rattle.dover_top.specs.declared.request.Request.TheVariants.{Schedule, ReportTasks}
 
 -- What serves a feed promises of the feed so far at every status, and more where all is done; what else is promised
 -- stands by the status.
@@ -22,6 +22,7 @@ Keeps Serve status moves = IsServedSoFar (ins moves) (outs moves) × (status ≡
 Keeps Judge status moves = status ≡ Done → IsAccepted moves
 Keeps (Report form) status moves = status ≡ Done → IsAccepted moves
 Keeps (Schedule form) status moves = Unit {0}
+Keeps ReportTasks status moves = Unit {0}
 Keeps (Trial seed count k) status moves = status ≡ Done → KeepsPromises (trial_instance k seed count)
 Keeps (Bait k rounds) status moves = status ≡ Done → KeepsBaits k rounds
 Keeps (Ask question) status moves = status ≡ Done → IsRun moves

@@ -3,11 +3,11 @@ use Rattle.std.specs.Prelude.{List, String}
 use Rattle.std.specs.declared.alloc.Global.{Global}
 use Rattle.dover_top.specs.Words.{AsksServe, AsksJudge, AsksReport, AsksTrial, AsksBait, AsksQuestion, AsksLanes}
 use Rattle.dover_top.specs.Words.{AsksPause, AsksResume, AsksUnroll, AsksDuel, AsksDraw, AsksSure, AsksBudget}
-use Rattle.dover_top.specs.Words.{AsksRatio, AsksSchedule}
+use Rattle.dover_top.specs.Words.{AsksRatio, AsksSchedule, AsksReportTasks}
 use Rattle.dover_top.specs.declared.request.Request.{Request}
 use Rattle.dover_top.specs.declared.request.Request.TheVariants.{Serve, Judge, Report, Trial, Bait, Ask, Lanes, Pause}
 use Rattle.dover_top.specs.declared.request.Request.TheVariants.{Resume, Unroll, Duel, Draw, Sure, Budget, Ratio}
-use Rattle.dover_top.specs.declared.request.Request.TheVariants.{Schedule}
+use Rattle.dover_top.specs.declared.request.Request.TheVariants.{Schedule, ReportTasks}
 
 -- the words ask for this
 abbrev pub Asks : List (String Global) → Request → Type 0
@@ -15,6 +15,7 @@ Asks words Serve = AsksServe words
 Asks words Judge = AsksJudge words
 Asks words (Report form) = AsksReport words form
 Asks words (Schedule form) = AsksSchedule words form
+Asks words ReportTasks = AsksReportTasks words
 Asks words (Trial seed count k) = AsksTrial words seed count k
 Asks words (Bait k rounds) = AsksBait words k rounds
 Asks words (Ask question) = AsksQuestion words question

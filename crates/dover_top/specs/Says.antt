@@ -19,12 +19,13 @@ use Rattle.question_words.specs.Questions.{says}
 use Rattle.question_words.specs.Talk.{ask_talk}
 use Rattle.lanes_word.specs.Record.{Serves}
 use Rattle.ratio_word.specs.Talk.{ratio_talk}
+use Rattle.task_report.specs.Talk.{task_report_talk}
 use Rattle.task_words.specs.asking.Talk.{tasks_talk}
 use Rattle.task_words.specs.declared.asking.question.TaskQuestion.TheVariants as tasks
 use Rattle.dover_top.specs.declared.request.Request.{Request}
 use Rattle.dover_top.specs.declared.request.Request.TheVariants.{Serve, Judge, Report, Trial, Bait, Ask, Lanes, Pause}
 use Rattle.dover_top.specs.declared.request.Request.TheVariants.{Resume, Unroll, Duel, Draw, Sure, Budget, Ratio}
-use Rattle.dover_top.specs.declared.request.Request.TheVariants.{Schedule}
+use Rattle.dover_top.specs.declared.request.Request.TheVariants.{Schedule, ReportTasks}
 
 -- What was got and put before each read, and in all. What reads says a talk; trial, bait, duel and draw read nothing
 -- and write a text; and resume says of each feed with its snapshot what serving the feed on does.
@@ -33,6 +34,7 @@ Says Serve = Talks (feed_talk ends.Refuse)
 Says Judge = Talks judge_talk
 Says (Report form) = Talks (report_talk form)
 Says (Schedule form) = Talks (schedule_talk form)
+Says ReportTasks = Talks task_report_talk
 Says (Trial seed count k) = λ status. Writes status (summary (trial_instance k seed count))
 Says (Bait k rounds) = Baits k rounds
 Says (Ask question) = Talks (ask_talk (says question))

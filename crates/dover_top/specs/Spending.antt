@@ -7,12 +7,13 @@ use Rattle.feed_words.specs.resume.Record as resumed
 use Rattle.trace_words.specs.judge.Spending as judged
 use Rattle.lanes_word.specs.Spending as hosted
 use Rattle.question_words.specs.Spending as answered
+use Rattle.task_report.specs.Spending as reported
 use Rattle.task_words.specs.asking.Spending as asked
 use Rattle.task_words.specs.declared.asking.question.TaskQuestion.TheVariants as tasks
 use Rattle.dover_top.specs.declared.request.Request.{Request}
 use Rattle.dover_top.specs.declared.request.Request.TheVariants.{Serve, Judge, Report, Trial, Bait, Ask, Lanes, Pause}
 use Rattle.dover_top.specs.declared.request.Request.TheVariants.{Resume, Unroll, Duel, Draw, Sure, Budget, Ratio}
-use Rattle.dover_top.specs.declared.request.Request.TheVariants.{Schedule}
+use Rattle.dover_top.specs.declared.request.Request.TheVariants.{Schedule, ReportTasks}
 
 -- how few comparisons it made, with so many before and now, for the jobs of what was read, at whatever status
 abbrev pub IsFrugal : Request → (before now : ℕ) → List Move → Type 0
@@ -20,6 +21,7 @@ IsFrugal Serve before now = served.IsFrugal before now
 IsFrugal Judge before now = judged.IsFrugal before now
 IsFrugal (Report form) before now = judged.IsFrugal before now
 IsFrugal (Schedule form) before now = λ moves. now ≡ before
+IsFrugal ReportTasks before now = reported.IsFrugal before now
 IsFrugal Pause before now = served.IsFrugal before now
 IsFrugal (Resume at_end) before now = resumed.IsFrugal before now
 IsFrugal (Ask question) before now = answered.IsFrugal question before now

@@ -78,6 +78,10 @@ pub record AsksSchedule (words : List (String Global)) (form : ScheduleForm) : T
   pub row : spelled words ≡ codes "report" ∷ codes "any" ∷ schedule_words form
   pub formed : IsScheduleForm form
 
+-- the two words that ask what became of the jobs of tasks
+abbrev pub AsksReportTasks : List (String Global) → Type 0
+AsksReportTasks words = spelled words ≡ codes "report" ∷ codes "tasks" ∷ []
+
 -- the words that ask for the run of so many jobs of a seed, within a ratio
 pub record AsksTrial (words : List (String Global)) (seed count : ℕ) (k : Fraction) : Type 0 where
   pub row : spelled words ≡ codes "trial" ∷ decimal seed ∷ decimal count ∷ decimal k.p ∷ decimal k.q ∷ []

@@ -15,6 +15,7 @@ use question_words::question_word;
 use ratio_word::ratio_word;
 use std::alloc::Global;
 use std::sync::ledger::Ledger;
+use task_report::task_report_word;
 use task_words::asking::{TaskQuestion, tasks_word};
 use trace_words::judge::judge_word;
 use trace_words::report::report_word;
@@ -39,6 +40,7 @@ pub(crate) fn carry_out<P: Port, L: Ledger>(
         Request::Judge => judge_word(alloc, port, comparisons),
         Request::Report(form) => report_word(alloc, port, form, comparisons),
         Request::Schedule(form) => schedule_word(alloc, port, form, comparisons),
+        Request::ReportTasks => task_report_word(alloc, port, comparisons),
         Request::Trial { seed, count, k } => trial_word(alloc, port, seed, count, k, comparisons),
         Request::Bait { k, rounds } => bait_word(port, k, rounds),
         Request::Ask(question) => question_word(alloc, port, question, comparisons),

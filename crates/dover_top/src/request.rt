@@ -35,6 +35,8 @@ pub enum Request {
     Report(Form),
     /// A report is made on a schedule, whichever policy made it.
     Schedule(ScheduleForm),
+    /// What became of the jobs of tasks is told.
+    ReportTasks,
     /// The jobs of a seed are served.
     Trial {
         seed: u32,
@@ -251,7 +253,7 @@ fn one_word(word: &String) -> Option<Request>
     }
 }
 
-/// The words behind `report`: a form, and what it is on, or behind `any` that of a schedule.
+/// The words behind `report`: `tasks`, or a form and what it is on, or behind `any` that of a schedule.
 fn report(words: &[String]) -> Option<Request>
     ensures some { (word : String Global) → string_bytes word ≡ codes "report" →
         IfSome result (λ r. Asks (word ∷ words.now) r) }
@@ -267,6 +269,12 @@ fn report(words: &[String]) -> Option<Request>
         "any" => {
             let form = schedule(words)?;
             Some(Request::Schedule(form))
+        }
+        "tasks" => {
+            let [] = words else {
+                return None;
+            };
+            Some(Request::ReportTasks)
         }
         _ => {
             let form = form_on(name, window(words)?)?;

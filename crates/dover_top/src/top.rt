@@ -31,6 +31,8 @@ use std::sync::ledger::Ledger;
 /// - `report any csv`, `report any timeline [FROM UNTIL]` and `report any svg [FROM UNTIL]` read a schedule that any
 ///   policy may have made, and write the same on it where it is legal, without intervals and bound, else the line that
 ///   is wrong first and why, or that it is short. More jobs than version Two may have are refused.
+/// - `report tasks` reads periodic tasks and a trace behind them, and writes what became of the jobs of each task, or
+///   else the line that `judge` writes.
 /// - `trial SEED COUNT P Q` reads nothing, and writes the summary of the run of so many stated jobs of a seed, within
 ///   the ratio P/Q.
 /// - `bait P Q N` reads nothing, and writes what the run of the baiting jobs comes to, and what another schedule of
@@ -89,9 +91,9 @@ pub fn dover<P: Port, L: Ledger>(
 
     // How many comparisons a call makes, at every status: for n jobs at most 80 * (n + 1) * d, where n + 1 has at most
     // d binary digits; serve, pause and the questions for the jobs that were admitted, none before a ratio line, and
-    // compare twice as many, since it serves them twice; judge and report for the whole lines that name a job; resume
-    // and resume pause for the jobs of the snapshot and those admitted behind it together, and before its last line for
-    // those of its lines so far. lanes makes as many for each lane as serving its feed alone may. unroll makes at most
+    // compare twice as many, since it serves them twice; judge and report for the whole lines that name a job, and
+    // report tasks for those behind the task text; resume and resume pause for the jobs of the snapshot and those
+    // admitted behind it together, and before its last line for those of its lines so far. lanes makes as many for each lane as serving its feed alone may. unroll makes at most
     // d * (t + 4 * n) for t tasks that release n jobs, where t + 1 has at most d binary digits. feasible, sure, budget,
     // ratio and report any make none.
     ensures comparisons { (request : Request) → Asks words.now request →

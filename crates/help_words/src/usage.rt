@@ -21,6 +21,7 @@ pub const USAGE: &str = r"usage: dover WORD.. [< INPUT]
   report any timeline FROM UNTIL  the same, of the ticks from FROM on and before UNTIL
   report any svg         a schedule of any policy in, a picture of it as SVG out
   report any svg FROM UNTIL  the same, of the ticks from FROM on and before UNTIL
+  report tasks           periodic tasks and a trace behind them in, what became of the jobs of each task out
   feasible               a feed in, whether all its deadlines can be met out, with a schedule or a window
   best                   a feed of at most 20 jobs in, the best schedule of its jobs out
   compare                a feed in, what the rules, version Four of them and two simpler policies complete out

@@ -19,6 +19,10 @@ pub returns-in-Schedule-clause-carries : goal.returns-in-Schedule-clause-carries
 returns-in-Schedule-clause-carries g c = let w = c.schedule_word.ensures in
     carried _ _ _ _ _ _ _ c.in-Schedule.is w.talks w.ends w.count tt
 
+pub returns-in-ReportTasks-clause-carries : goal.returns-in-ReportTasks-clause-carries
+returns-in-ReportTasks-clause-carries g c = let w = c.task_report_word.ensures in
+    carried _ _ _ _ _ _ _ c.in-ReportTasks.is w.talks w.ends w.count tt
+
 pub returns-in-Trial-clause-carries : goal.returns-in-Trial-clause-carries
 returns-in-Trial-clause-carries g c = let w = c.trial_word.ensures in
     carried _ _ _ _ _ _ _ c.in-Trial.is w.writes w.ends (since_weaker _ _ _ _ w.writes (λ _ _. tt)) w.count

@@ -54,15 +54,43 @@ no_any name words (Why n) e is = unlike_any _ _ e is (λ same. omega (arith, sam
 no_any name words (Timeline window) e is = unlike_any _ _ e is (λ same. omega (arith, same))
 no_any name words (Svg window) e is = unlike_any _ _ e is (λ same. omega (arith, same))
 
--- what begins with any
-its_name : {name : List ℕ} {words rest : List (List ℕ)} → name ∷ words ≡ codes "any" ∷ rest → name ≡ codes "any"
+-- nor do words that begin with tasks; text begins with the same letter
+unlike_tasks : {name : List ℕ} {words : List (List ℕ)} (first : List ℕ) (rest : List (List ℕ))
+    → name ∷ words ≡ first ∷ rest
+    → name ≡ codes "tasks" → (get_or (codes "tasks") 1 0 ≡ get_or first 1 0 → ⊥) → ⊥
+unlike_tasks first rest e is other =
+    other (sym (ap (λ l. get_or l 1 0) is) ∙ ap (λ l. get_or (get_or l 0 []) 1 0) e)
+
+-- no form begins with tasks
+no_tasks : (name : List ℕ) (words : List (List ℕ)) (form : Form) → name ∷ words ≡ form_words form
+    → name ≡ codes "tasks" → ⊥
+no_tasks name words Text e is = unlike_tasks _ _ e is (λ same. omega (arith, same))
+no_tasks name words Table e is = unlike_tasks _ _ e is (λ same. omega (arith, same))
+no_tasks name words Chrome e is = unlike_tasks _ _ e is (λ same. omega (arith, same))
+no_tasks name words (Why n) e is = unlike_tasks _ _ e is (λ same. omega (arith, same))
+no_tasks name words (Timeline window) e is = unlike_tasks _ _ e is (λ same. omega (arith, same))
+no_tasks name words (Svg window) e is = unlike_tasks _ _ e is (λ same. omega (arith, same))
+
+-- the name that words begin with
+its_name : {name first : List ℕ} {words rest : List (List ℕ)} → name ∷ words ≡ first ∷ rest → name ≡ first
 its_name e = ap (λ l. get_or l 0 []) e
 
--- which isn't why
+-- one name isn't two of another first letter
+two_names : {name : List ℕ} (one other : List ℕ) → name ≡ one → name ≡ other
+    → (get_or one 0 0 ≡ get_or other 0 0 → ⊥) → ⊥
+two_names one other is also differ = differ (ap (λ l. get_or l 0 0) (sym is ∙ also))
+
+-- any isn't why
 any_why : {name : List ℕ} → name ≡ codes "any" → name ≡ codes "why" → ⊥
-any_why is why =
-    let same : get_or (codes "any") 0 0 ≡ get_or (codes "why") 0 0 = ap (λ l. get_or l 0 0) (sym is ∙ why) in
-    omega (arith, same)
+any_why is why = two_names _ _ is why (λ same. omega (arith, same))
+
+-- tasks isn't why
+tasks_why : {name : List ℕ} → name ≡ codes "tasks" → name ≡ codes "why" → ⊥
+tasks_why is why = two_names _ _ is why (λ same. omega (arith, same))
+
+-- nor is it any
+tasks_any : {name : List ℕ} → name ≡ codes "tasks" → name ≡ codes "any" → ⊥
+tasks_any is any = two_names _ _ is any (λ same. omega (arith, same))
 
 -- a form has a word
 some_words : (form : Form) → 0 < length (form_words form)
@@ -88,7 +116,8 @@ returns-in_err-name-clause-none c = λ word is _ r asks.
     let long = length_spelled c.args.words.now in
     elim (asks_report word _ r is asks) [
       | inl it ↦ absurd (omega (arith, c.in_err-name.ensures.cases, long, ap length it.1, some_words it.0))
-      | inr it ↦ absurd (omega (arith, c.in_err-name.ensures.cases, long, ap length it.1))
+      | inr (inl it) ↦ absurd (omega (arith, c.in_err-name.ensures.cases, long, ap length it.1))
+      | inr (inr it) ↦ absurd (omega (arith, c.in_err-name.ensures.cases, long, ap length it))
     ]
 
 pub returns-in_err-job-in-why-clause-none : goal.returns-in_err-job-in-why-clause-none
@@ -97,15 +126,18 @@ returns-in_err-job-in-why-clause-none c = λ word is _ r asks.
     elim (asks_report word _ r is asks) [
       | inl it ↦ no_job _ _ it.0 (split c.in_ok-name.ensures.cases.0 it.1) it.2 why
           (c.in_err-job-in-why.ensures.none refl)
-      | inr it ↦ any_why (its_name (split c.in_ok-name.ensures.cases.0 it.1)) why
+      | inr (inl it) ↦ any_why (its_name (split c.in_ok-name.ensures.cases.0 it.1)) why
+      | inr (inr it) ↦ tasks_why (its_name (split c.in_ok-name.ensures.cases.0 it)) why
     ]
 
 pub returns-in_err-form-in-any-clause-none : goal.returns-in_err-form-in-any-clause-none
 returns-in_err-form-in-any-clause-none c = λ word is _ r asks.
     elim (asks_report word _ r is asks) [
       | inl it ↦ no_any _ _ it.0 (split c.in_ok-name.ensures.cases.0 it.1) (sym c.as_str.ensures.value ∙ c.in-any.is)
-      | inr it ↦ c.in_err-form-in-any.ensures.none refl it.0 it.2
+      | inr (inl it) ↦ c.in_err-form-in-any.ensures.none refl it.0 it.2
           (ap (drop 1) (split c.in_ok-name.ensures.cases.0 it.1))
+      | inr (inr it) ↦ tasks_any (its_name (split c.in_ok-name.ensures.cases.0 it))
+          (sym c.as_str.ensures.value ∙ c.in-any.is)
     ]
 
 pub returns-in_err-window-in_default-clause-none : goal.returns-in_err-window-in_default-clause-none
@@ -113,8 +145,10 @@ returns-in_err-window-in_default-clause-none c = λ word is _ r asks.
     elim (asks_report word _ r is asks) [
       | inl it ↦ no_form _ _ it.0 (split c.in_ok-name.ensures.cases.0 it.1) it.2
           (λ why. c.in_default.not-why (c.as_str.ensures.value ∙ why)) (c.in_err-window-in_default.ensures.none refl)
-      | inr it ↦ c.in_default.not-any
+      | inr (inl it) ↦ c.in_default.not-any
           (c.as_str.ensures.value ∙ its_name (split c.in_ok-name.ensures.cases.0 it.1))
+      | inr (inr it) ↦ c.in_default.not-tasks
+          (c.as_str.ensures.value ∙ its_name (split c.in_ok-name.ensures.cases.0 it))
     ]
 
 pub returns-in_err-form-in_default-clause-none : goal.returns-in_err-form-in_default-clause-none
@@ -123,8 +157,10 @@ returns-in_err-form-in_default-clause-none c = λ word is _ r asks.
       | inl it ↦ c.in_err-form-in_default.ensures.none refl it.0
           (ap (λ rest. string_bytes c.in_ok-name.name.now ∷ rest) (sym c.in_ok-window-in_default.ensures.some.1)
           ∙ split c.in_ok-name.ensures.cases.0 it.1)
-      | inr it ↦ c.in_default.not-any
+      | inr (inl it) ↦ c.in_default.not-any
           (c.as_str.ensures.value ∙ its_name (split c.in_ok-name.ensures.cases.0 it.1))
+      | inr (inr it) ↦ c.in_default.not-tasks
+          (c.as_str.ensures.value ∙ its_name (split c.in_ok-name.ensures.cases.0 it))
     ]
 
 pub returns-in_ok-form-in-any-clause-some : goal.returns-in_ok-form-in-any-clause-some

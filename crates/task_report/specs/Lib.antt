@@ -1,0 +1,10 @@
+pub mod Tallies
+pub mod Keeping
+pub mod Counting
+pub mod Texts
+pub mod Writing
+pub mod Behind
+pub mod Talk
+pub mod Talking
+pub mod Telling
+pub mod Spending

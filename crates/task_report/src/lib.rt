@@ -1,0 +1,13 @@
+//! The word `report tasks`: what became of the jobs of each task.
+#![tactic(auto)]
+
+mod counting;
+mod lines;
+mod sorting;
+mod tally;
+mod talker;
+mod telling;
+mod word;
+
+pub use tally::Tally;
+pub use word::task_report_word;
