@@ -19,7 +19,7 @@ front_open : (x y : List ℕ) → open_at (x ++ y) ≡ true → open_at x ≡ tr
 front_open x y opened = by (open_at x) refl where
   by : (b : Bool) → open_at x ≡ b → b ≡ true
   by true is = refl
-  by false is = never (sym opened ∙ stays_closed x y is)
+  by false is = never (sym (stays_closed x y is) ∙ opened)
 
 -- behind bytes with which the text goes on it is looked for behind these
 pub past : (read xs ys : List ℕ) → open_at (read ++ xs) ≡ true

@@ -1,1 +1,5 @@
 pub mod Behind
+pub mod Talking
+pub mod Reading
+pub mod Answering
+pub mod Told

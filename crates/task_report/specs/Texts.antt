@@ -5,6 +5,7 @@ use Rattle.dover_model.specs.declared.events.Event.{Event}
 use Rattle.dover_model.specs.Common.{Instance, in_lines, with_numbers}
 use Rattle.task_words.specs.tasks.Names.{name_text}
 use Rattle.task_words.specs.budget.Budgets.{task_at}
+use Rattle.task_words.specs.declared.tasks.name.TaskName.{TaskName}
 use Rattle.task_words.specs.declared.tasks.task.PeriodicTask.{PeriodicTask}
 use Rattle.task_report.specs.Counting.{tally_in}
 use Rattle.task_report.specs.Tallies.{task_tally}
@@ -20,7 +21,7 @@ slack_field None = codes "-"
 slack_field (Some ticks) = decimal ticks
 
 -- the line of a task: its number, what became of its jobs, and its name where it has one
-abbrev pub task_line : (number : ℕ) → Tally → (name : List ℕ) → List ℕ
+abbrev pub task_line : (number : ℕ) → Tally → TaskName → List ℕ
 task_line number t name =
     with_numbers (codes "task") (number ∷ tally_numbers t) ++ (32 ∷ slack_field t.slack ++ name_text name)
 

@@ -1,0 +1,19 @@
+use Rattle.std.proofs.Common.{refl, sym, ◌∙◌}
+use Rattle.dialogue.proofs.Hearing.{takes_whole}
+use Rattle.task_report.specs.Talk.{task_report_talk}
+use Rattle.task_report.specs.Talking.{IsReady}
+use Rattle.task_report.proofs.Reading.{front_all, front_test, ready_more, spent_more, takes_by}
+use Rattle.task_report.proofs.talker.ReportingTalker.take.Goals as goal
+
+pub take-requires-clause-open_still : goal.take-requires-clause-open_still
+take-requires-clause-open_still g c = let at = c.requires.stands.2 in
+    (0, at.front, at.reads, sym (c.goes_on.ensures 0 at.front at.reads) ∙ c.if-goes_on.true)
+
+pub returns-then-goes_on-clause-takes : goal.returns-then-goes_on-clause-takes
+returns-then-goes_on-clause-takes g c = λ start x at goes.
+    let front = sym (c.goes_on.ensures 0 at.front at.reads) ∙ c.if-goes_on.true in
+    let opened = front_test start _ _ _ x at ∙ front in
+    let all = front_all start _ _ _ x at opened in
+    takes_by start _ _ _ x at opened _ c.take.new.self c.take.result
+    (rw all at (c.take.ensures.takes 0 at.front at.reads front)) c.take.ensures.few
+    (rw all at (c.take.ensures.fronts 0 at.front at.reads front))
