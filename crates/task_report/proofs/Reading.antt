@@ -24,7 +24,6 @@ use Rattle.task_report.specs.Talk as talk
 use Rattle.task_report.specs.Talking.{Costs, IsReady}
 use Rattle.task_report.proofs.Behind.{none_behind, past}
 use Rattle.task_report.proofs.Talking.{account_stays, behind_more, behind_open, costs_behind, more_at}
-use Rattle.task_report.proofs.Talking.{goes_open}
 
 -- of no bytes
 pub ready_none : (reader : TaskReader) (judge : Judged) (start : ℕ) → StandsFor 0 reader [] → judging.StandsFor judge []
@@ -118,27 +117,6 @@ module _ (start : ℕ) (reader : TaskReader) (judge : Judged) (steps : ℕ) (x :
     takes_by piece new (Ok n) takes line fronts = takes_front piece new n takes line fronts
     takes_by piece new (Err e) takes line fronts =
         ((λ ended. absurd (let e : false ≡ true = ended in cc)), costs_behind start steps x piece spent)
-
-  -- ---- whether more is to be read
-
-  -- behind a task text that goes on
-  pub goes_front : is_open (account 0 at.front) ≡ true → more_at x ≡ true
-  goes_front opened = goes_open x (front_test ∙ opened)
-
-  -- behind one that has ended
-  pub goes_ended : (account 0 at.front).standing ≡ Ended → (wrong : Bool) → wrong ≡ is_wrong (verdict (behind x))
-      → not wrong ≡ more_at x
-  goes_ended ended wrong is = ap not is
-      ∙ sym (ap (λ s. talk.goes_on s (behind x)) (ap (λ (a : TaskAccount). a.standing) at.same ∙ ended))
-
-  -- behind one that is at fault
-  pub goes_faulty : is_open (account 0 at.front) ≡ false → ((account 0 at.front).standing ≡ Ended → ⊥)
-      → false ≡ more_at x
-  goes_faulty closed other = by (account 0 x).standing refl where
-    by : (s : Standing) → (account 0 x).standing ≡ s → false ≡ talk.goes_on s (behind x)
-    by Open is = never (sym (front_test ∙ closed) ∙ ap accounts.goes_on is)
-    by Ended is = absurd (other (sym (ap (λ (a : TaskAccount). a.standing) at.same) ∙ is))
-    by (Faulty line cause) is = refl
 
   -- ---- the trace
 

@@ -4,19 +4,19 @@ use Rattle.task_report.proofs.word.task_report_word.Goals as goal
 
 pub converse-requires : goal.converse-requires
 converse-requires g c = let new = c.in-Ok.ensures in
-    (c.args.comparisons.now, ready_none _ _ _ c.new-reader.ensures new.stands new.paid new.keep)
+    (c.args.comparisons.now, ready_none _ _ _ c.new-2.ensures new.stands new.paid new.keep)
 
 pub returns-clause-talks : goal.returns-clause-talks
 returns-clause-talks g c = let new = c.in-Ok.ensures in since_weaker _ _ _ _ (c.converse.ensures.talks
-    c.args.comparisons.now (ready_none _ _ _ c.new-reader.ensures new.stands new.paid new.keep)) (λ moves it. it.0)
+    c.args.comparisons.now (ready_none _ _ _ c.new-2.ensures new.stands new.paid new.keep)) (λ moves it. it.0)
 
 pub returns-clause-count : goal.returns-clause-count
 returns-clause-count g c = let new = c.in-Ok.ensures in since_weaker _ _ _ _ (c.converse.ensures.talks
-    c.args.comparisons.now (ready_none _ _ _ c.new-reader.ensures new.stands new.paid new.keep)) (λ moves it. it.1)
+    c.args.comparisons.now (ready_none _ _ _ c.new-2.ensures new.stands new.paid new.keep)) (λ moves it. it.1)
 
 pub returns-clause-ends : goal.returns-clause-ends
 returns-clause-ends g c = let new = c.in-Ok.ensures in c.converse.ensures.ends
-    c.args.comparisons.now (ready_none _ _ _ c.new-reader.ensures new.stands new.paid new.keep)
+    c.args.comparisons.now (ready_none _ _ _ c.new-2.ensures new.stands new.paid new.keep)
 
 pub returns-clause-causes : goal.returns-clause-causes
 returns-clause-causes g c = c.converse.ensures.causes
