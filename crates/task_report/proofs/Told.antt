@@ -11,6 +11,7 @@ use Rattle.dover_model.specs.Common.{Fraction}
 use Rattle.dover_model.proofs.lists.Beginnings.{in_lines-append}
 use Rattle.dover_model.proofs.sessions.SessionParts.{session_jobs}
 use Rattle.dover_port.specs.Moves.{Move, Passes, CutsShort}
+use Rattle.dover_port.proofs.Through.{passes_nothing}
 use Rattle.dover_port.specs.declared.status.Status.TheVariants.{Done}
 use Rattle.dialogue.specs.declared.talker.Stop.TheVariants.{NoMemory, Unwritten}
 use Rattle.run_reports.specs.report.Counts.{jobs_released}
@@ -50,6 +51,13 @@ report_is tasks J steps valid are =
     ∙ sym (in_lines-append (task_lines tasks (printed J)) _)
     ∙ ap (λ jobs. report_of tasks (printed J) jobs) (run_releases J valid (printed J) refl)
 
+-- there was no memory for it
+pub told_none : (tasks : List PeriodicTask) (trace : List ℕ) (S : Session) → IsValidSession S
+    → verdict trace ≡ model.Accepted S → (now : Option (List Move)) (q : List ℕ) → q ≡ []
+    → TellsBy tasks trace now now q (Err NoMemory)
+told_none tasks trace S valid accepted now q empty =
+    ((S, valid, accepted), subst (λ p. Passes now now p q []) empty (passes_nothing now q))
+
 module _ (tasks : List PeriodicTask) (trace : List ℕ) (S : Session) (valid : IsValidSession S)
     (accepted : verdict trace ≡ model.Accepted S) (steps : List Event) (are : steps ≡ printed (instance_of S))
     (a b : Option (List Move)) (q : List ℕ) where
@@ -69,10 +77,6 @@ module _ (tasks : List PeriodicTask) (trace : List ℕ) (S : Session) (valid : I
   -- it couldn't be put
   pub told_cut : CutsShort a b [] (report_in tasks steps) → TellsBy tasks trace a b q (Err Unwritten)
   told_cut cut = (Done, report_in tasks steps, says, cut)
-
-  -- there was no memory for it
-  pub told_none : Passes a b [] q [] → TellsBy tasks trace a b q (Err NoMemory)
-  told_none none = ((S, valid, accepted), none)
 
 -- ---- the line of a verdict
 
