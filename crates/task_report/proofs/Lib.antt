@@ -3,3 +3,6 @@ pub mod Talking
 pub mod Reading
 pub mod Answering
 pub mod Told
+pub mod Chosen
+pub mod Counted
+pub mod Parts

@@ -38,7 +38,15 @@ task_of tasks j = if nat_lt (first_task (λ task. is_unrolled task j) tasks) (le
 -- of no jobs
 abbrev pub no_jobs : Tally
 no_jobs = record {
-  jobs = 0; completed = 0; lost = 0; value = 0; lost_value = 0; longest = 0; responses = 0; preempted = 0; slack = None;
+  jobs = 0;
+  completed = 0;
+  lost = 0;
+  value = 0;
+  lost_value = 0;
+  longest = 0;
+  responses = 0;
+  preempted = 0;
+  slack = None;
 }
 
 -- Of a job that ended so, or not at all, and got the processor so often. It lost it before it was done as often, but
@@ -47,8 +55,13 @@ abbrev pub of_job : JobFacts → Option Ending → (gets : ℕ) → Tally
 of_job j None gets = record no_jobs { jobs = 1; preempted = gets }
 of_job j (Some (Abandoned at)) gets = record no_jobs { jobs = 1; lost = 1; lost_value = j.value; preempted = gets }
 of_job j (Some (Completed at)) gets = record no_jobs {
-  jobs = 1; completed = 1; value = j.value; longest = at - j.release; responses = at - j.release;
-  preempted = gets - 1; slack = Some (j.deadline - at);
+  jobs = 1;
+  completed = 1;
+  value = j.value;
+  longest = at - j.release;
+  responses = at - j.release;
+  preempted = gets - 1;
+  slack = Some (j.deadline - at);
 }
 
 -- the least of the times that there are

@@ -1,13 +1,11 @@
 -- The report on the jobs of tasks, as a text.
 use Rattle.std.specs.Prelude.{ℕ, List, [], ◌∷◌, ◌++◌, map, length, decimal, codes, Option, Some, None}
 use Rattle.std.specs.List.{enumerate_from}
-use Rattle.dover_model.specs.declared.events.Event.{Event}
 use Rattle.dover_model.specs.Common.{Instance, in_lines, with_numbers}
 use Rattle.task_words.specs.tasks.Names.{name_text}
 use Rattle.task_words.specs.budget.Budgets.{task_at}
 use Rattle.task_words.specs.declared.tasks.name.TaskName.{TaskName}
 use Rattle.task_words.specs.declared.tasks.task.PeriodicTask.{PeriodicTask}
-use Rattle.task_report.specs.Counting.{tally_in}
 use Rattle.task_report.specs.Tallies.{task_tally}
 use Rattle.task_report.specs.declared.tally.Tally.{Tally}
 

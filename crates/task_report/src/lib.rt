@@ -4,8 +4,8 @@
 mod counting;
 mod lines;
 mod sorting;
-mod tally;
 mod talker;
+mod tally;
 mod telling;
 mod word;
 
