@@ -1,6 +1,6 @@
 -- What is put at the end is an answer.
 use Rattle.std.proofs.Common.{◌≡◌, ℕ, List, [], ◌∷◌, ◌++◌, length, refl, sym, ap, ◌∙◌, subst, Option, Result, Ok, Err}
-use Rattle.std.proofs.Common.{Bool, true, inl, inr}
+use Rattle.std.proofs.Common.{Bool, inl, inr}
 use Rattle.dover_model.specs.Common.{fault_text, whole_lines}
 use Rattle.dover_port.specs.Moves.{Move}
 use Rattle.dover_port.specs.declared.status.Status.{Status}
@@ -14,7 +14,7 @@ use Rattle.event_feed.specs.Kept.{cause_of_fault}
 use Rattle.event_feed.specs.declared.faults.FeedFault.{FeedFault}
 use Rattle.trace_judge.specs.Judging.{Judged}
 use Rattle.task_words.specs.declared.tasks.task.PeriodicTask.{PeriodicTask}
-use Rattle.task_words.specs.reading.Account.{TaskAccount, account, is_open}
+use Rattle.task_words.specs.reading.Account.{TaskAccount, is_open}
 use Rattle.task_words.specs.reading.Record.{IsEnded, IsRefusedBy}
 use Rattle.task_words.specs.declared.reading.listed.ListedTasks.{ListedTasks}
 use Rattle.task_words.specs.declared.reading.reader.TaskReader.{TaskReader}

@@ -1,10 +1,10 @@
 -- What follows a task text, as bytes come.
-use Rattle.std.proofs.Common.{◌≡◌, ◌<◌, ℕ, suc, List, [], ◌∷◌, ◌++◌, length, take, refl, sym, ap, ◌∙◌, subst, arith}
+use Rattle.std.proofs.Common.{◌≡◌, ◌<◌, ℕ, suc, List, [], ◌∷◌, ◌++◌, length, take, refl, sym, ap, ◌∙◌, arith}
 use Rattle.std.proofs.Common.{Bool, true, false, cond, append_assoc, append-nil}
 use Rattle.dover_model.proofs.lists.Tests.{never}
-use Rattle.task_words.specs.reading.Account.{TaskAccount, account, is_open}
+use Rattle.task_words.specs.reading.Account.{account, is_open}
 use Rattle.task_words.proofs.reading.Accounts.{closed_account}
-use Rattle.task_report.specs.Behind.{behind, behind_from}
+use Rattle.task_report.specs.Behind.{behind_from}
 
 -- whether a task text of these bytes goes on
 abbrev open_at : List ℕ → Bool

@@ -1,6 +1,6 @@
 -- What is kept of a task text and of the trace behind it, as bytes come.
 use Rattle.std.proofs.Common.{◌≡◌, ◌≤◌, ◌<◌, ◌^◌, ◌-◌, ◌+◌, ℕ, List, ◌++◌, [], length, take, refl, sym, ap, ◌∙◌, subst}
-use Rattle.std.proofs.Common.{arith, Bool, true, false, not, ◌&&◌, append-nil, append_assoc, length-append, take-take}
+use Rattle.std.proofs.Common.{arith, true, false, append-nil, append_assoc, length-append, take-take}
 use Rattle.std.proofs.Common.{length-take-le, Result, Ok, Err, IfOk}
 use Rattle.dover_model.specs.Common.{Standing, Open, Ended, Faulty}
 use Rattle.dover_model.specs.Spending.{CostsAtMost}
@@ -12,7 +12,7 @@ use Rattle.trace_judge.specs.Judging as judging
 use Rattle.trace_judge.proofs.Lengths.{few_bytes}
 use Rattle.trace_judge.proofs.Spending.{costs_few}
 use Rattle.trace_words.proofs.judge.Talking.{not_so}
-use Rattle.task_words.specs.reading.Account.{TaskAccount, account, is_open}
+use Rattle.task_words.specs.reading.Account.{account, is_open}
 use Rattle.task_words.specs.reading.Keeping.{StandsFor, TakesFront, TextStands}
 use Rattle.task_words.specs.declared.reading.reader.TaskReader.{TaskReader}
 use Rattle.task_words.proofs.reading.Accounts as accounts

@@ -1,8 +1,9 @@
 -- What is told of tasks and of a text that was judged.
 use Rattle.std.proofs.Common.{◌≡◌, ℕ, List, [], ◌∷◌, ◌++◌, refl, sym, ap, ◌∙◌, subst, length, map, filter, Option}
-use Rattle.std.proofs.Common.{Result, Ok, Err, inl, inr, true, ◌==◌}
+use Rattle.std.proofs.Common.{Ok, Err, ◌==◌}
 use Rattle.std.specs.List.{enumerate_from}
-use Rattle.dover_model.specs.Common.{Instance, JobFacts, IsValid, Session, IsValidSession, instance_of, in_lines, printed}
+use Rattle.dover_model.specs.Common.{Instance, JobFacts, IsValid, Session, IsValidSession, instance_of, in_lines}
+use Rattle.dover_model.specs.Common.{printed}
 use Rattle.dover_model.specs.Verdict as model
 use Rattle.dover_model.specs.Verdict.{verdict}
 use Rattle.dover_model.specs.declared.events.Event.{Event}
@@ -17,7 +18,7 @@ use Rattle.dialogue.specs.declared.talker.Stop.TheVariants.{NoMemory, Unwritten}
 use Rattle.run_reports.specs.report.Counts.{jobs_released}
 use Rattle.run_reports.proofs.report.Counting.{run_releases}
 use Rattle.run_reports.proofs.report.Texts.{one_line}
-use Rattle.trace_judge.specs.Judging.{Tells, steps_told}
+use Rattle.trace_judge.specs.Judging.{Tells}
 use Rattle.trace_judge.specs.declared.verdict.Verdict.{Verdict}
 use Rattle.trace_judge.specs.declared.verdict.Verdict.TheVariants.{Accepted, Wrong, Short}
 use Rattle.trace_words.specs.judge.Line.{verdict_text, status_of}
