@@ -93,9 +93,9 @@ pub fn dover<P: Port, L: Ledger>(
     // d binary digits; serve, pause and the questions for the jobs that were admitted, none before a ratio line, and
     // compare twice as many, since it serves them twice; judge and report for the whole lines that name a job, and
     // report tasks for those behind the task text; resume and resume pause for the jobs of the snapshot and those
-    // admitted behind it together, and before its last line for those of its lines so far. lanes makes as many for each lane as serving its feed alone may. unroll makes at most
-    // d * (t + 4 * n) for t tasks that release n jobs, where t + 1 has at most d binary digits. feasible, sure, budget,
-    // ratio and report any make none.
+    // admitted behind it together, and before its last line for those of its lines so far. lanes makes as many for each
+    // lane as serving its feed alone may. unroll makes at most d * (t + 4 * n) for t tasks that release n jobs, where
+    // t + 1 has at most d binary digits. feasible, sure, budget, ratio and report any make none.
     ensures comparisons { (request : Request) → Asks words.now request →
         Since (P.moves port.old) (P.moves port.new) (IsFrugal request comparisons.old comparisons.new) }
     // trial at Done, where the words alone tell how many jobs there are; bait, duel and draw make none.
