@@ -45,8 +45,8 @@ returns-in_err-form-clause-none c = λ _ form formed spells. c.in_err-form.ensur
     (ap (λ rest. string_bytes c.in_ok-name.name.now ∷ rest) (sym c.in_ok-window.ensures.some.1)
     ∙ split c.in_ok-name.ensures.cases.0 spells)
 
-pub returns-in_ok-form-clause-some : goal.returns-in_ok-form-clause-some
-returns-in_ok-form-clause-some c = (
+pub returns-clause-some : goal.returns-clause-some
+returns-clause-some c = (
   joined c.in_ok-name.ensures.cases.0 c.in_ok-window.ensures.some.1 ∙ c.in_ok-form.ensures.some.0,
   c.in_ok-form.ensures.some.1 c.in_ok-window.ensures.some.0,
 )
