@@ -15,14 +15,14 @@ use Rattle.dover_model.specs.Common.{printed_anew}
 use Rattle.dover_model.specs.Rest.{completed_anew}
 use Rattle.dover_model.proofs.lists.Members.{all_member, on_map, each_append}
 use Rattle.dover_model.proofs.bound.Calculus.{within_less, within_add}
-use Rattle.dover_model.proofs.rest.Anew.{moved_runs}
+use Rattle.dover_model.proofs.rest.Anew.{anew_jobs, ends_with_all, jobs_anew, moved_runs, of_rules, within_more}
 use Rattle.dover_model.proofs.rest.Apart.{settled_at_rest}
 use Rattle.dover_model.proofs.rest.InTurns.{behind_turns, completed_more, one_more, one_run_completes, one_run_observes}
 use Rattle.dover_model.proofs.rest.InTurns.{one_run_prints, declared_within, observed_within}
 use Rattle.dover_model.proofs.rest.Parting.{worth_to, worth_append}
 use Rattle.dover_model.proofs.rest.Resting.{at_tick, RunsFrom, joined, runs_all, sees_all}
 use Rattle.dover_model.proofs.rest.Turns.{behind_none}
-use Rattle.dover_model.proofs.rest.TurnsGrowing.{ends_behind}
+use Rattle.dover_model.proofs.rest.TurnsGrowing.{ends_behind, finishes_twice}
 use Rattle.dover_model.proofs.runs.Runs.{last_value, value_last}
 use Rattle.dover_model.proofs.valid.JobLimits.{job_limits}
 use Rattle.dover_model.proofs.valid.ValidParts.{valid_parts}
@@ -43,15 +43,6 @@ pub record IsLife (rules : Rules) (tick : ℕ) (life : Turn) : Type 0 where
   pub low : last ≤ tick
   pub rest : IsAtRest (turn_under rules more) tick
   pub is : life ≡ all_of (turns ++ more ∷ [])
-
--- finishes that are numbered behind others, twice
-finishes_twice : (n m : ℕ) (fs : List Finish)
-    → map (behind_finish n) (map (behind_finish m) fs) ≡ map (behind_finish (n + m)) fs
-finishes_twice n m [] = refl
-finishes_twice n m (f ∷ fs) =
-    let sum : n + (m + f.number) ≡ n + m + f.number = omega arith in
-    ap (λ k. record { number = k; had = f.had } ∷ map (behind_finish n) (map (behind_finish m) fs)) sum
-    ∙ ap (λ gs. behind_finish (n + m) f ∷ gs) (finishes_twice n m fs)
 
 -- a job that comes from the tick on, and fits
 abbrev IsFrom : ℕ → JobFacts → Type 0
@@ -213,11 +204,6 @@ module _ (rules : Rules) where
   AreLives [] = Unit {0}
   AreLives (l ∷ ls) = IsLife rules l.0 l.1 × AreLives ls
 
-  -- the jobs that each has, in one time
-  abbrev jobs_by : (Turn → List JobFacts) → List (ℕ × Turn) → List JobFacts
-  jobs_by of [] = []
-  jobs_by of (l ∷ ls) = of l.1 ++ map (later_job l.0) (jobs_by of ls)
-
   abbrev seen : Turn → List JobFacts
   seen turn = (observed (turn_under rules turn)).jobs
 
@@ -238,162 +224,76 @@ module _ (rules : Rules) where
     -- from the opening on
     lives_run : (ls : List (ℕ × Turn)) → AreLives ls
         → RunsFrom (having rules (anew (and_last ls)).finishes) 0 (anew (and_last ls)).jobs
-        (printed_anew rules (and_last ls)) (jobs_by seen (and_last ls))
+        (printed_anew rules (and_last ls)) (jobs_anew seen (and_last ls))
     lives_run [] all = life_then tick life it [] [] (End 0 ∷ []) [] (λ j member. absurd member)
         (step_at (having rules []) (at_tick tick []) ∷ [], (refl, refl), omega arith, refl, refl)
     lives_run (l ∷ ls) all =
         life_then l.0 l.1 all.0 (anew (and_last ls)).finishes (map (later_job l.0) (anew (and_last ls)).jobs)
-        (map (later_event l.0) (printed_anew rules (and_last ls))) (map (later_job l.0) (jobs_by seen (and_last ls)))
+        (map (later_event l.0) (printed_anew rules (and_last ls))) (map (later_job l.0) (jobs_anew seen (and_last ls)))
         (on_map (later_job l.0) (λ j. (l.0 ≤ j.release) × (l.0 ≤ j.deadline)) (anew (and_last ls)).jobs
         (λ j member. (omega arith, omega arith)))
         (moved_runs l.0 (having rules (anew (and_last ls)).finishes) (anew (and_last ls)).jobs
-        (printed_anew rules (and_last ls)) (jobs_by seen (and_last ls)) (lives_fit ls all.1) (lives_run ls all.1))
+        (printed_anew rules (and_last ls)) (jobs_anew seen (and_last ls)) (lives_fit ls all.1) (lives_run ls all.1))
 
     -- the run of all is their runs
     pub lives_print : (ls : List (ℕ × Turn)) → AreLives ls
         → printed (turn_under rules (anew (and_last ls))) ≡ printed_anew rules (and_last ls)
     lives_print ls all = runs_all (having rules (anew (and_last ls)).finishes) (anew (and_last ls)).jobs
-        (printed_anew rules (and_last ls)) (jobs_by seen (and_last ls)) (lives_run ls all)
+        (printed_anew rules (and_last ls)) (jobs_anew seen (and_last ls)) (lives_run ls all)
 
     -- it observes the jobs as they do
     lives_observe : (ls : List (ℕ × Turn)) → AreLives ls
-        → (observed (turn_under rules (anew (and_last ls)))).jobs ≡ jobs_by seen (and_last ls)
+        → (observed (turn_under rules (anew (and_last ls)))).jobs ≡ jobs_anew seen (and_last ls)
     lives_observe ls all = sees_all (having rules (anew (and_last ls)).finishes) (anew (and_last ls)).jobs
-        (printed_anew rules (and_last ls)) (jobs_by seen (and_last ls)) (lives_run ls all)
+        (printed_anew rules (and_last ls)) (jobs_anew seen (and_last ls)) (lives_run ls all)
 
-  -- ---- what is completed
-
-  -- what is printed ends with the value of all
-  ends_anew : (ls : List (ℕ × Turn)) → (es : List Event)
-      × (printed_anew rules ls ≡ es ++ (End (completed_anew rules ls) ∷ []))
-  ends_anew [] = ([], refl)
-  ends_anew (l ∷ ls) = let it = ends_anew ls in (
-    front ++ map number (map (later_event l.0) it.0),
-    ap (λ es. front ++ map number (map (later_event l.0) es)) it.1
-        ∙ ap (λ es. front ++ es) (ap (map number) (map-append (later_event l.0) it.0 (last (completed_anew rules ls)))
-        ∙ map-append number (map (later_event l.0) it.0) (last (completed_anew rules ls)))
-        ∙ sym (append_assoc front (map number (map (later_event l.0) it.0))
-        (last (completed_value (turn_under rules l.1) + completed_anew rules ls)))
-        ∙ ap (λ value. (front ++ map number (map (later_event l.0) it.0)) ++ last value)
-        (sym (completed_more rules l.1 (map (λ (m : ℕ × Turn). m.1) ls))),
-  ) where
-    front : List Event
-    front = before_end (printed (turn_under rules l.1))
-
-    number : Event → Event
-    number = behind (length l.1.jobs) (completed_value (turn_under rules l.1))
-
-    last : ℕ → List Event
-    last value = End value ∷ []
-
-  -- ---- what schedules are worth
-
-  -- none
-  abbrev no_ticks : List ℕ
-  no_ticks = []
-
-  -- nothing has no part
-  none_left : (x y : ℕ) → drop x (take y no_ticks) ≡ no_ticks
-  none_left zero zero = refl
-  none_left (suc x) zero = refl
-  none_left _ _ = refl
-
-  -- ticks of a later window
-  drop_window : (c r d : ℕ) (s : List ℕ) → drop (r + c) (take (d + c) s) ≡ drop r (take d (drop c s))
-  drop_window zero r d s = ap (λ m. drop m (take (d + 0) s)) (omega arith) ∙ ap (λ m. drop r (take m s)) (omega arith)
-  drop_window (suc c) r d [] = none_left (r + suc c) (d + suc c) ∙ sym (none_left r d)
-  drop_window (suc c) r d (m ∷ s) =
-      ap (λ k. drop k (take (d + suc c) (m ∷ s))) (let e : r + suc c ≡ suc (r + c) = omega arith in e)
-      ∙ ap (λ k. drop (suc (r + c)) (take k (m ∷ s))) (let e : d + suc c ≡ suc (d + c) = omega arith in e)
-      ∙ drop_window c r d s
-
-  -- a schedule is worth to later jobs what its rest is worth to the jobs
-  worth_later : (c k : ℕ) (jobs : List JobFacts) (s : List ℕ)
-      → sum_by (worth_to s) (enumerate_from k (map (later_job c) jobs)) ≡ sum_by (worth_to (drop c s))
-      (enumerate_from k jobs)
-  worth_later c k [] s = refl
-  worth_later c k (j ∷ jobs) s =
-      let here : worth_to s (k, later_job c j) ≡ worth_to (drop c s) (k, j) =
-      ap (λ ticks. cond (nat_le j.work (count_by (λ m. m == k) ticks)) j.value 0)
-      (drop_window c j.release j.deadline s) in
-      omega (
-        arith,
-        here,
-        worth_later c (k + 1) jobs s,
-        sum_by-cons (worth_to s) (k, later_job c j) (enumerate_from (k + 1) (map (later_job c) jobs)),
-        sum_by-cons (worth_to (drop c s)) (k, j) (enumerate_from (k + 1) jobs),
-      )
-
-  -- the instance of these jobs
-  abbrev of_rules : List JobFacts → Instance
-  of_rules jobs = record { rules = rules; jobs = jobs }
-
-  -- a bound of a life and one of what is later are one of both
-  within_more : (jobs more : List JobFacts) (tick : ℕ) (s : List ℕ) (a b : ℕ)
-      → ((t : List ℕ) → IsWithin rules.ratio (worth (of_rules jobs) t) a)
-      → ((t : List ℕ) → IsWithin rules.ratio (worth (of_rules more) t) b)
-      → IsWithin rules.ratio (worth (of_rules (jobs ++ map (later_job tick) more)) s) (a + b)
-  within_more jobs more tick s a b one other =
-      let rest : List ℕ = map (λ m. m - length jobs) s in
-      let later : worth (of_rules (map (later_job tick) more)) rest ≡ worth (of_rules more) (drop tick rest) =
-      worth_later tick 0 more rest in
-      within_less rules.ratio (worth (of_rules (jobs ++ map (later_job tick) more)) s)
-      (worth (of_rules jobs) s + worth (of_rules more) (drop tick rest)) (a + b)
-      (omega (arith, later, worth_append rules jobs (map (later_job tick) more) s))
-      (within_add rules.ratio _ _ _ _ (one s) (other (drop tick rest)))
-
-  module _ (tick : ℕ) (life : Turn) (it : IsLife rules tick life) where
-    abbrev with_last : List (ℕ × Turn) → List (ℕ × Turn)
-    with_last ls = ls ++ (0, life) ∷ []
+    -- ---- what schedules are worth
 
     -- it completes what they complete
     lives_complete : (ls : List (ℕ × Turn)) → AreLives ls
-        → completed_value (turn_under rules (anew (with_last ls))) ≡ completed_anew rules (with_last ls)
-    lives_complete ls all = let ends = ends_anew (with_last ls) in
+        → completed_value (turn_under rules (anew (and_last ls))) ≡ completed_anew rules (and_last ls)
+    lives_complete ls all = let ends = ends_with_all rules (and_last ls) in
         ap (last_value 0) (lives_print tick life it ls all ∙ ends.1)
-        ∙ value_last 0 (completed_anew rules (with_last ls)) ends.0
+        ∙ value_last 0 (completed_anew rules (and_last ls)) ends.0
 
     -- a bound of each life is one of all
     each_within : (of : Turn → List JobFacts)
         → ((at : ℕ) (turn : Turn) (s : List ℕ) → IsLife rules at turn
-        → IsWithin rules.ratio (worth (of_rules (of turn)) s) (completed_value (turn_under rules turn)))
+        → IsWithin rules.ratio (worth (of_rules rules (of turn)) s) (completed_value (turn_under rules turn)))
         → (ls : List (ℕ × Turn)) (s : List ℕ) → AreLives ls
-        → IsWithin rules.ratio (worth (of_rules (jobs_by of (with_last ls))) s) (completed_anew rules (with_last ls))
+        → IsWithin rules.ratio (worth (of_rules rules (jobs_anew of (and_last ls))) s)
+        (completed_anew rules (and_last ls))
     each_within of each [] s all =
-        let alone : completed_value (turn_under rules life) ≡ completed_anew rules (with_last []) =
+        let alone : completed_value (turn_under rules life) ≡ completed_anew rules (and_last []) =
         omega (arith, completed_more rules life []) in
-        subst (IsWithin rules.ratio (worth (of_rules (of life ++ [])) s)) alone
-        (subst (λ js. IsWithin rules.ratio (worth (of_rules js) s) (completed_value (turn_under rules life)))
+        subst (IsWithin rules.ratio (worth (of_rules rules (of life ++ [])) s)) alone
+        (subst (λ js. IsWithin rules.ratio (worth (of_rules rules js) s) (completed_value (turn_under rules life)))
         (sym (append-nil (of life))) (each tick life s it))
     each_within of each (l ∷ ls) s all =
-        subst (IsWithin rules.ratio (worth (of_rules (of l.1 ++ map (later_job l.0) (jobs_by of (with_last ls)))) s))
-        (sym (completed_more rules l.1 (map (λ (m : ℕ × Turn). m.1) (with_last ls))))
-        (within_more (of l.1) (jobs_by of (with_last ls)) l.0 s (completed_value (turn_under rules l.1))
-        (completed_anew rules (with_last ls))
+        let later : List JobFacts = map (later_job l.0) (jobs_anew of (and_last ls)) in
+        subst (IsWithin rules.ratio (worth (of_rules rules (of l.1 ++ later)) s))
+        (sym (completed_more rules l.1 (map (λ (m : ℕ × Turn). m.1) (and_last ls))))
+        (within_more rules (of l.1) (jobs_anew of (and_last ls)) l.0 s (completed_value (turn_under rules l.1))
+        (completed_anew rules (and_last ls))
         (λ t. each l.0 l.1 t all.0) (λ t. each_within of each ls t all.1))
-
-    -- all the jobs
-    anew_jobs : (ls : List (ℕ × Turn)) → (anew ls).jobs ≡ jobs_by (λ turn. turn.jobs) ls
-    anew_jobs [] = refl
-    anew_jobs (l ∷ ls) = ap (λ js. l.1.jobs ++ map (later_job l.0) js) (anew_jobs ls)
 
     -- no schedule of all jobs as they are declared is worth more than the one run allows
     pub lives_within : (ls : List (ℕ × Turn)) (s : List ℕ) → AreLives ls
-        → IsWithin rules.ratio (worth (turn_under rules (anew (with_last ls))) s)
-        (completed_value (turn_under rules (anew (with_last ls))))
+        → IsWithin rules.ratio (worth (turn_under rules (anew (and_last ls))) s)
+        (completed_value (turn_under rules (anew (and_last ls))))
     lives_within ls s all =
-        subst (IsWithin rules.ratio (worth (turn_under rules (anew (with_last ls))) s)) (sym (lives_complete ls all))
-        (subst (λ js. IsWithin rules.ratio (worth (of_rules js) s) (completed_anew rules (with_last ls)))
-        (sym (anew_jobs (with_last ls)))
+        subst (IsWithin rules.ratio (worth (turn_under rules (anew (and_last ls))) s)) (sym (lives_complete ls all))
+        (subst (λ js. IsWithin rules.ratio (worth (of_rules rules js) s) (completed_anew rules (and_last ls)))
+        (sym (anew_jobs (and_last ls)))
         (each_within (λ turn. turn.jobs) (λ at turn t a. life_within at turn t a) ls s all))
 
     -- nor one of the jobs as they were observed
     pub lives_observed : (ls : List (ℕ × Turn)) (s : List ℕ) → AreLives ls
-        → IsWithin rules.ratio (worth (observed (turn_under rules (anew (with_last ls)))) s)
-        (completed_value (turn_under rules (anew (with_last ls))))
+        → IsWithin rules.ratio (worth (observed (turn_under rules (anew (and_last ls)))) s)
+        (completed_value (turn_under rules (anew (and_last ls))))
     lives_observed ls s all =
-        subst (IsWithin rules.ratio (worth (observed (turn_under rules (anew (with_last ls)))) s))
+        subst (IsWithin rules.ratio (worth (observed (turn_under rules (anew (and_last ls)))) s))
         (sym (lives_complete ls all))
-        (subst (λ js. IsWithin rules.ratio (worth (of_rules js) s) (completed_anew rules (with_last ls)))
+        (subst (λ js. IsWithin rules.ratio (worth (of_rules rules js) s) (completed_anew rules (and_last ls)))
         (sym (lives_observe tick life it ls all))
         (each_within seen (λ at turn t a. life_observed at turn t a) ls s all))

@@ -109,6 +109,54 @@ module _ (c : ℕ) where
             ∙ sym (map_map (later_job c) observing (tasks_in it.0)) ∙ ap (map (later_job c)) it.4,
       )
 
+-- ---- the jobs of turns, each in its own time, and later jobs
+
+-- the jobs that each turn has, in one time
+abbrev pub jobs_anew : (Turn → List JobFacts) → List (ℕ × Turn) → List JobFacts
+jobs_anew of [] = []
+jobs_anew of (t_turn ∷ turns) = of t_turn.1 ++ map (later_job t_turn.0) (jobs_anew of turns)
+
+-- all the jobs
+pub anew_jobs : (turns : List (ℕ × Turn)) → (anew turns).jobs ≡ jobs_anew (λ turn. turn.jobs) turns
+anew_jobs [] = refl
+anew_jobs (t_turn ∷ turns) = ap (λ js. t_turn.1.jobs ++ map (later_job t_turn.0) js) (anew_jobs turns)
+
+-- none
+abbrev no_ticks : List ℕ
+no_ticks = []
+
+-- nothing has no part
+none_left : (x y : ℕ) → drop x (take y no_ticks) ≡ no_ticks
+none_left zero zero = refl
+none_left (suc x) zero = refl
+none_left _ _ = refl
+
+-- ticks of a later window
+drop_window : (c r d : ℕ) (s : List ℕ) → drop (r + c) (take (d + c) s) ≡ drop r (take d (drop c s))
+drop_window zero r d s = ap (λ m. drop m (take (d + 0) s)) (omega arith) ∙ ap (λ m. drop r (take m s)) (omega arith)
+drop_window (suc c) r d [] = none_left (r + suc c) (d + suc c) ∙ sym (none_left r d)
+drop_window (suc c) r d (m ∷ s) =
+    ap (λ k. drop k (take (d + suc c) (m ∷ s))) (let e : r + suc c ≡ suc (r + c) = omega arith in e)
+    ∙ ap (λ k. drop (suc (r + c)) (take k (m ∷ s))) (let e : d + suc c ≡ suc (d + c) = omega arith in e)
+    ∙ drop_window c r d s
+
+-- a schedule is worth to later jobs what its rest is worth to the jobs
+pub worth_later : (c k : ℕ) (jobs : List JobFacts) (s : List ℕ)
+    → sum_by (worth_to s) (enumerate_from k (map (later_job c) jobs)) ≡ sum_by (worth_to (drop c s))
+    (enumerate_from k jobs)
+worth_later c k [] s = refl
+worth_later c k (j ∷ jobs) s =
+    let here : worth_to s (k, later_job c j) ≡ worth_to (drop c s) (k, j) =
+    ap (λ ticks. cond (nat_le j.work (count_by (λ m. m == k) ticks)) j.value 0)
+    (drop_window c j.release j.deadline s) in
+    omega (
+      arith,
+      here,
+      worth_later c (k + 1) jobs s,
+      sum_by-cons (worth_to s) (k, later_job c j) (enumerate_from (k + 1) (map (later_job c) jobs)),
+      sum_by-cons (worth_to (drop c s)) (k, j) (enumerate_from (k + 1) jobs),
+    )
+
 -- ---- turns, each in its own time
 
 module _ (rules : Rules) where
@@ -119,11 +167,6 @@ module _ (rules : Rules) where
   -- the turns without their ticks
   abbrev untimed : List (ℕ × Turn) → List Turn
   untimed turns = map (λ t_turn. t_turn.1) turns
-
-  -- the jobs that each turn has, in one time
-  abbrev jobs_anew : (Turn → List JobFacts) → List (ℕ × Turn) → List JobFacts
-  jobs_anew of [] = []
-  jobs_anew of (t_turn ∷ turns) = of t_turn.1 ++ map (later_job t_turn.0) (jobs_anew of turns)
 
   -- as each turn's run observes them
   abbrev seen : Turn → List JobFacts
@@ -177,7 +220,7 @@ module _ (rules : Rules) where
   later_last c last (e ∷ es) = ap (λ gs. later_event c e ∷ gs) (later_last c last es)
 
   -- what is printed ends with the value of all
-  ends_with_all : (turns : List (ℕ × Turn)) → (es : List Event)
+  pub ends_with_all : (turns : List (ℕ × Turn)) → (es : List Event)
       × (printed_anew rules turns ≡ es ++ (End (completed_anew rules turns) ∷ []))
   ends_with_all [] = ([], refl)
   ends_with_all (t_turn ∷ turns) = let it = ends_with_all turns in (
@@ -206,45 +249,23 @@ module _ (rules : Rules) where
 
   -- ---- the bound
 
-  -- none
-  abbrev no_ticks : List ℕ
-  no_ticks = []
-
-  -- nothing has no part
-  none_left : (x y : ℕ) → drop x (take y no_ticks) ≡ no_ticks
-  none_left zero zero = refl
-  none_left (suc x) zero = refl
-  none_left _ _ = refl
-
-  -- ticks of a later window
-  drop_window : (c r d : ℕ) (s : List ℕ) → drop (r + c) (take (d + c) s) ≡ drop r (take d (drop c s))
-  drop_window zero r d s = ap (λ m. drop m (take (d + 0) s)) (omega arith) ∙ ap (λ m. drop r (take m s)) (omega arith)
-  drop_window (suc c) r d [] = none_left (r + suc c) (d + suc c) ∙ sym (none_left r d)
-  drop_window (suc c) r d (m ∷ s) =
-      ap (λ k. drop k (take (d + suc c) (m ∷ s))) (let e : r + suc c ≡ suc (r + c) = omega arith in e)
-      ∙ ap (λ k. drop (suc (r + c)) (take k (m ∷ s))) (let e : d + suc c ≡ suc (d + c) = omega arith in e)
-      ∙ drop_window c r d s
-
-  -- a schedule is worth to later jobs what its rest is worth to the jobs
-  worth_later : (c k : ℕ) (jobs : List JobFacts) (s : List ℕ)
-      → sum_by (worth_to s) (enumerate_from k (map (later_job c) jobs)) ≡ sum_by (worth_to (drop c s))
-      (enumerate_from k jobs)
-  worth_later c k [] s = refl
-  worth_later c k (j ∷ jobs) s =
-      let here : worth_to s (k, later_job c j) ≡ worth_to (drop c s) (k, j) =
-      ap (λ ticks. cond (nat_le j.work (count_by (λ m. m == k) ticks)) j.value 0)
-      (drop_window c j.release j.deadline s) in
-      omega (
-        arith,
-        here,
-        worth_later c (k + 1) jobs s,
-        sum_by-cons (worth_to s) (k, later_job c j) (enumerate_from (k + 1) (map (later_job c) jobs)),
-        sum_by-cons (worth_to (drop c s)) (k, j) (enumerate_from (k + 1) jobs),
-      )
-
   -- the instance of these jobs
-  abbrev of_rules : List JobFacts → Instance
+  abbrev pub of_rules : List JobFacts → Instance
   of_rules jobs = record { rules = rules; jobs = jobs }
+
+  -- a bound of some jobs and one of later jobs are one of both
+  pub within_more : (jobs more : List JobFacts) (tick : ℕ) (s : List ℕ) (a b : ℕ)
+      → ((t : List ℕ) → IsWithin rules.ratio (worth (of_rules jobs) t) a)
+      → ((t : List ℕ) → IsWithin rules.ratio (worth (of_rules more) t) b)
+      → IsWithin rules.ratio (worth (of_rules (jobs ++ map (later_job tick) more)) s) (a + b)
+  within_more jobs more tick s a b one other =
+      let rest : List ℕ = map (λ m. m - length jobs) s in
+      let later : worth (of_rules (map (later_job tick) more)) rest ≡ worth (of_rules more) (drop tick rest) =
+      worth_later tick 0 more rest in
+      within_less rules.ratio (worth (of_rules (jobs ++ map (later_job tick) more)) s)
+      (worth (of_rules jobs) s + worth (of_rules more) (drop tick rest)) (a + b)
+      (omega (arith, later, worth_append rules jobs (map (later_job tick) more) s))
+      (within_add rules.ratio _ _ _ _ (one s) (other (drop tick rest)))
 
   -- a bound of each turn is one of all
   within_anew : (of : Turn → List JobFacts)
@@ -254,25 +275,10 @@ module _ (rules : Rules) where
       → IsWithin rules.ratio (worth (of_rules (jobs_anew of turns)) s) (completed_anew rules turns)
   within_anew of each [] s all = none_within rules.ratio
   within_anew of each (t_turn ∷ turns) s all =
-      let later : worth (of_rules (map (later_job t_turn.0) (jobs_anew of turns)))
-      (map (λ m. m - length (of t_turn.1)) s)
-      ≡ worth (of_rules (jobs_anew of turns)) (drop t_turn.0 (map (λ m. m - length (of t_turn.1)) s)) =
-      worth_later t_turn.0 0 (jobs_anew of turns) (map (λ m. m - length (of t_turn.1)) s) in
       subst (IsWithin rules.ratio (worth (of_rules (of t_turn.1 ++ map (later_job t_turn.0) (jobs_anew of turns))) s))
       (sym (completed_more rules t_turn.1 (untimed turns)))
-      (within_less rules.ratio
-      (worth (of_rules (of t_turn.1 ++ map (later_job t_turn.0) (jobs_anew of turns))) s)
-      (worth (of_rules (of t_turn.1)) s
-      + worth (of_rules (jobs_anew of turns)) (drop t_turn.0 (map (λ m. m - length (of t_turn.1)) s)))
-      (completed_value (of_turn t_turn.1) + completed_anew rules turns)
-      (omega (arith, later, worth_append rules (of t_turn.1) (map (later_job t_turn.0) (jobs_anew of turns)) s))
-      (within_add rules.ratio _ _ _ _ (each t_turn.1 s all.0.0)
-      (within_anew of each turns (drop t_turn.0 (map (λ m. m - length (of t_turn.1)) s)) all.2)))
-
-  -- all the jobs
-  anew_jobs : (turns : List (ℕ × Turn)) → (anew turns).jobs ≡ jobs_anew (λ turn. turn.jobs) turns
-  anew_jobs [] = refl
-  anew_jobs (t_turn ∷ turns) = ap (λ js. t_turn.1.jobs ++ map (later_job t_turn.0) js) (anew_jobs turns)
+      (within_more (of t_turn.1) (jobs_anew of turns) t_turn.0 s (completed_value (of_turn t_turn.1))
+      (completed_anew rules turns) (λ t. each t_turn.1 t all.0.0) (λ t. within_anew of each turns t all.2))
 
   -- no schedule of all jobs as they are declared is worth more than the one run allows
   pub declared_anew : (turns : List (ℕ × Turn)) (s : List ℕ) → AreAnew rules turns

@@ -19,7 +19,7 @@ jobs_behind (turn ∷ turns) more = ap (λ js. turn.jobs ++ js) (jobs_behind tur
     ∙ sym (append_assoc turn.jobs (turns_jobs turns) more.jobs)
 
 -- finishes that are numbered behind others, twice
-finishes_twice : (n m : ℕ) (fs : List Finish)
+pub finishes_twice : (n m : ℕ) (fs : List Finish)
     → map (behind_finish n) (map (behind_finish m) fs) ≡ map (behind_finish (n + m)) fs
 finishes_twice n m [] = refl
 finishes_twice n m (f ∷ fs) =
