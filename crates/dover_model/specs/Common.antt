@@ -15,14 +15,14 @@ pub use Rattle.dover_model.specs.declared.factors.Factor.{Factor}
 pub use Rattle.dover_model.specs.declared.horizon.Horizon.{Horizon}
 pub use Rattle.dover_model.specs.declared.horizon.Horizon.TheVariants.{Mark}
 pub use Rattle.dover_model.specs.declared.pieces.Piece.{Piece}
-pub use Rattle.dover_model.specs.Limits.{idle, last_tick, most_items, most_jobs, most_lines, most_p, most_q, most_ready}
-pub use Rattle.dover_model.specs.Limits.{most_total, most_value}
+pub use Rattle.dover_model.specs.Limits.{idle, last_tick, last_tick_in, most_items, most_jobs, most_lines, most_p, most_q}
+pub use Rattle.dover_model.specs.Limits.{most_ready, most_total, most_value, most_work}
 pub use Rattle.dover_model.specs.JobFacts.{is_job, IsJob, job_numbers, job_of_numbers, JobFacts}
 pub use Rattle.dover_model.specs.Fraction.{factor_numbers, Fraction, fraction, is_ratio, is_some_factor, IsRatio}
 pub use Rattle.dover_model.specs.Fraction.{ratio_with, with_factor}
 pub use Rattle.dover_model.specs.Finishes.{AreDueAlike, Finish, goes_on, has_come_to, is_due, is_finish_of, need}
 pub use Rattle.dover_model.specs.Instance.{bare, Declaration, declared_by, finishing, having, Instance, is_valid}
-pub use Rattle.dover_model.specs.Instance.{is_within_ratio, IsInOrder, IsListable, IsValid, jobs_under, Rules}
+pub use Rattle.dover_model.specs.Instance.{is_within_ratio, IsInOrder, IsListable, IsValid, jobs_under, last_deadline, Rules}
 pub use Rattle.dover_model.specs.Instance.{total_value, under, with_finishes, with_jobs}
 pub use Rattle.dover_model.specs.Schedules.{earned, is_served, Meets, numbered, ticks_given, worth}
 pub use Rattle.dover_model.specs.State.{demand_by, demand_up_to, held, is_coming, is_done, is_fresh, is_held}
@@ -40,7 +40,7 @@ pub use Rattle.dover_model.specs.Step.{after, alarm, arrival, completion, decisi
 pub use Rattle.dover_model.specs.Step.{dispatch, displaced, due_finish, ending, finish_or, is_at_latest_start, Move}
 pub use Rattle.dover_model.specs.Step.{open_step, preempts, Prints, resumed, role_after, runs, step, ticked, Ticks}
 pub use Rattle.dover_model.specs.Step.{seen_by, urgent_or, View, view, Waits, with_role, ◌or_else◌}
-pub use Rattle.dover_model.specs.Run.{completed_value, enough, event_of, is_end, last_deadline, number_running, printed}
+pub use Rattle.dover_model.specs.Run.{completed_value, enough, event_of, is_end, number_running, printed}
 pub use Rattle.dover_model.specs.Run.{printed_of, ran, run, Step, tick_of, value_of_end}
 pub use Rattle.dover_model.specs.Sound.{Each, EachTwo, FitsRole, HaveTheSame, IsMember, IsNumberedFrom, IsSound}
 pub use Rattle.dover_model.specs.Sound.{jobs_of, Keeps, NoneRuns}

@@ -13,6 +13,10 @@ low_of n = n % 2 ^ 32
 abbrev pub high_of : ℕ → ℕ
 high_of n = n / 2 ^ 32
 
+-- the high part of a tick, of its lowest 16 digits and what is above them
+abbrev pub high_with : (high top : ℕ) → ℕ
+high_with high top = high + top * 2 ^ 16
+
 -- the number of these parts
 abbrev pub joined : (low high : ℕ) → ℕ
 joined low high = low + high * 2 ^ 32

@@ -1,5 +1,5 @@
 //! What the machine prints, and what a job is to it.
-use crate::jobs::Job;
+use crate::jobs::{Job, LAST_TICK};
 
 /// The version of a feed: how ties are broken, whether a job that isn't admitted ends the feed, and whether jobs may
 /// finish early.
@@ -70,6 +70,17 @@ impl Version {
         match self {
             Version::One | Version::Two => 10_000_000_000_000,
             Version::Three | Version::Four => 999_999_999_999_999_999,
+        }
+    }
+
+    /// The last tick that a release, a deadline or a line of a feed may name.
+    #[inline(always)]
+    pub fn last_tick(self) -> u64
+        ensures { result ≡ limits.last_tick_in self }
+    {
+        match self {
+            Version::One | Version::Two => 1_000_000_000_000,
+            Version::Three | Version::Four => LAST_TICK,
         }
     }
 

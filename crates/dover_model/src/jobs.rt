@@ -8,8 +8,11 @@ ghost use Rattle.dover_model.specs.Sound.{Each};
 
 use std::marker::Model;
 
-/// The last tick that a release or a deadline may name.
-pub const LAST_TICK: u64 = 1_000_000_000_000;
+/// The last tick that a release or a deadline may name in any version. `Version::last_tick` is that of one.
+pub const LAST_TICK: u64 = 10_000_000_000_000_000;
+
+/// The most ticks of work that a job may need.
+pub const MOST_WORK: u64 = 1_000_000_000_000;
 
 /// The greatest value of a job.
 pub const MOST_VALUE: u64 = 1_000_000_000;
@@ -47,10 +50,10 @@ impl Job {
         ensures facts { IfSome result
             (λ job. job ≡ record { release = release; work = work; deadline = deadline; value = value }) }
     {
-        if work < 1 || deadline > LAST_TICK || value < 1 || value > MOST_VALUE {
+        if work < 1 || work > MOST_WORK || value < 1 || value > MOST_VALUE {
             return None;
         }
-        if deadline < work || deadline - work < release {
+        if deadline > LAST_TICK || deadline < work || deadline - work < release {
             return None;
         }
         Some(Job::of(release, work, deadline, value))
@@ -70,7 +73,7 @@ impl Job {
         }
     }
 
-    /// The tick from which it may run, and at which it becomes known: at most 10^12.
+    /// The tick from which it may run, and at which it becomes known: at most 10^16.
     pub fn release(&self) -> u64
         ensures is { result ≡ self.now.release }
         ensures job { IsJob self.now }
@@ -78,7 +81,7 @@ impl Job {
         self.release
     }
 
-    /// The ticks of work that it needs: at least 1.
+    /// The ticks of work that it needs: 1 to 10^12.
     pub fn work(&self) -> u64
         ensures is { result ≡ self.now.work }
         ensures job { IsJob self.now }
@@ -86,7 +89,7 @@ impl Job {
         self.work
     }
 
-    /// The tick by which it is due: at most 10^12, and late enough for all its work behind its release.
+    /// The tick by which it is due: at most 10^16, and late enough for all its work behind its release.
     pub fn deadline(&self) -> u64
         ensures is { result ≡ self.now.deadline }
         ensures job { IsJob self.now }

@@ -17,8 +17,8 @@ use Rattle.dover_model.proofs.rest.TurnSchedules.{one_then, over_by, worth_one_t
 use Rattle.dover_model.proofs.runs.RunLaws.{one_run, tasks_in}
 use Rattle.dover_model.proofs.rest.Moving.{moved_task, moved_state, IsFitting, whole_later}
 use Rattle.dover_model.proofs.runs.Runs.{last_value, value_last}
-use Rattle.dover_model.proofs.rest.Resting.{at_tick, RunsFrom, alone, joined, runs_all, sees_all, later_due, due_least}
-use Rattle.dover_model.proofs.rest.Resting.{dues_mono}
+use Rattle.dover_model.proofs.rest.Resting.{at_tick, RunsFrom, alone, joined, runs_all, sees_all}
+use Rattle.dover_model.proofs.valid.Dues.{later_due, due_least, dues_mono}
 use Rattle.dover_model.proofs.rest.Apart.{settled_at_rest, behind_last}
 use Rattle.dover_model.proofs.bound.Calculus.{within_less, none_within, within_add}
 use Rattle.dover_model.proofs.rest.Parting.{worth_to, worth_append}

@@ -39,6 +39,7 @@ use Rattle.dover_model.proofs.finishes.Finishing.{none_without}
 use Rattle.std.specs.Option.{option_or}
 use Rattle.std.proofs.lemmas.List.Folds.{find-append}
 use Rattle.dover_model.proofs.lists.Tests.{never}
+use Rattle.dover_model.proofs.valid.Dues.{later_due, last_first, last_more}
 use Rattle.dover_model.proofs.valid.ValidParts.{valid_parts}
 use Rattle.dover_model.proofs.valid.JobLimits.{job_limits}
 use Rattle.dover_model.specs.Common.{state_at}
@@ -82,56 +83,6 @@ pub numbers_apart : (J : Instance) (s : State) → Keeps J s → (more : List Jo
 numbers_apart J s keeps more t u mt mu same =
     let low : t.number < length J.jobs = numbers_below J s keeps t mt in
     let high : length J.jobs ≤ u.number = come_above (length J.jobs) more u mu in omega arith
-
--- ---- deadlines
-
--- the later of the deadlines
-abbrev pub later_due : ℕ → JobFacts → ℕ
-later_due d j = cond (nat_le d j.deadline) j.deadline d
-
--- it is no sooner than either
-pub due_least : (d : ℕ) (j : JobFacts) → (d ≤ later_due d j) × (j.deadline ≤ later_due d j)
-due_least d j = by_test (nat_le d j.deadline) refl where
-  by_test : (b : Bool) → nat_le d j.deadline ≡ b → (d ≤ cond b j.deadline d) × (j.deadline ≤ cond b j.deadline d)
-  by_test true e = let low : d ≤ j.deadline = leb-true _ _ e in (omega arith, omega arith)
-  by_test false e = let low : j.deadline < d = leb-false _ _ e in (omega arith, omega arith)
-
--- a later start gives no sooner an end
-due_mono : (a b : ℕ) (j : JobFacts) → a ≤ b → later_due a j ≤ later_due b j
-due_mono a b j low = by_test (nat_le a j.deadline) refl where
-  least : (b ≤ later_due b j) × (j.deadline ≤ later_due b j)
-  least = due_least b j
-
-  by_test : (test : Bool) → nat_le a j.deadline ≡ test → cond test j.deadline a ≤ later_due b j
-  by_test true e = least.1
-  by_test false e = let up : b ≤ later_due b j = least.0 in omega arith
-
--- over a list
-pub dues_mono : (a b : ℕ) (jobs : List JobFacts) → a ≤ b → fold later_due a jobs ≤ fold later_due b jobs
-dues_mono a b [] low = low
-dues_mono a b (j ∷ jobs) low = dues_mono (later_due a j) (later_due b j) jobs (due_mono a b j low)
-
--- no sooner than the start
-dues_from : (a : ℕ) (jobs : List JobFacts) → a ≤ fold later_due a jobs
-dues_from a [] = omega arith
-dues_from a (j ∷ jobs) = let here : a ≤ later_due a j = (due_least a j).0 in
-    let rest : later_due a j ≤ fold later_due (later_due a j) jobs = dues_from (later_due a j) jobs in omega arith
-
--- one list after another
-dues_append : (a : ℕ) (jobs more : List JobFacts)
-    → fold later_due a (jobs ++ more) ≡ fold later_due (fold later_due a jobs) more
-dues_append a [] more = refl
-dues_append a (j ∷ jobs) more = dues_append (later_due a j) jobs more
-
--- the last deadline of more jobs is no sooner
-last_more : (jobs more : List JobFacts) → last_deadline more ≤ last_deadline (jobs ++ more)
-last_more jobs more = subst (λ d. last_deadline more ≤ d) (sym (dues_append 0 jobs more))
-    (dues_mono 0 (fold later_due 0 jobs) more (omega arith))
-
--- the last deadline is no sooner than the first job's
-last_first : (j : JobFacts) (jobs : List JobFacts) → j.deadline ≤ last_deadline (j ∷ jobs)
-last_first j jobs = let here : j.deadline ≤ later_due 0 j = (due_least 0 j).1 in
-    let rest : later_due 0 j ≤ fold later_due (later_due 0 j) jobs = dues_from (later_due 0 j) jobs in omega arith
 
 -- ---- ticks before the first release
 

@@ -60,3 +60,16 @@ ratio_of_a_less_dense_job = refl
 
 within_the_ratio : refusal_of (up_to 2 One) (job 0 1 1 2 ∷ []) (job 0 1 1 1) ≡ None
 within_the_ratio = refl
+
+-- the last tick of a version, and the most work
+due_at_the_last_tick_of_three : refusal_of (up_to 1 Three) [] (job 0 1 10_000_000_000_000_000 1) ≡ None
+due_at_the_last_tick_of_three = refl
+
+due_after_the_last_tick_of_two : refusal_of (up_to 1 Two) [] (job 0 1 1_000_000_000_001 1) ≡ Some BadJob
+due_after_the_last_tick_of_two = refl
+
+due_after_the_last_tick : refusal_of (up_to 1 Three) [] (job 0 1 10_000_000_000_000_001 1) ≡ Some BadJob
+due_after_the_last_tick = refl
+
+too_much_work : refusal_of (up_to 1 Three) [] (job 0 1_000_000_000_001 10_000_000_000_000_000 1) ≡ Some BadJob
+too_much_work = refl

@@ -178,7 +178,7 @@ form = refl
 
 -- a tick beyond the last
 beyond : Serves (
-    codes "k 1 1 3/done 1000000000000001 0/"
+    codes "k 1 1 3/done 10000000000000001 0/"
     ) (
     codes "dover 3 1 1/refused 2 order/"
     )

@@ -22,6 +22,7 @@ use Rattle.dover_model.proofs.runs.Potential.{steps_scale, weights, deed_weighs,
 use Rattle.dover_model.proofs.finishes.Readiness.{IsReady, step_decides, open_decides, step_ready, opening_ready}
 use Rattle.dover_model.proofs.runs.RunLaws.{enough_fuel}
 use Rattle.dover_model.proofs.lists.Tests.{never}
+use Rattle.dover_model.proofs.valid.Dues.{dues_most}
 use Rattle.dover_model.proofs.valid.JobLimits.{job_limits}
 
 -- the ticks up to this one, and what the jobs can still bring about
@@ -95,31 +96,11 @@ module _ (J : Instance) (valid : IsValid J) (s : State) (keeps : Keeps J s) (rul
 
 -- ---- a tick comes before the last deadline
 
--- no deadline is after the last
-fold_most : (jobs : List JobFacts) (d : ℕ)
-    → (d ≤ fold (λ d j. cond (nat_le d j.deadline) j.deadline d) d jobs) × AllByRecursion
-    (λ j. j.deadline ≤ fold (λ d j. cond (nat_le d j.deadline) j.deadline d) d jobs) jobs
-fold_most [] d = (omega arith, tt)
-fold_most (j ∷ jobs) d = by_test (nat_le d j.deadline) refl (fold_most jobs) where
-  last_from : ℕ → ℕ
-  last_from from = fold (λ d j. cond (nat_le d j.deadline) j.deadline d) from jobs
-
-  by_test : (b : Bool) → nat_le d j.deadline ≡ b
-      → ((e : ℕ) → (e ≤ fold (λ d j. cond (nat_le d j.deadline) j.deadline d) e jobs) × AllByRecursion
-      (λ j. j.deadline ≤ fold (λ d j. cond (nat_le d j.deadline) j.deadline d) e jobs) jobs)
-      → (d ≤ fold (λ d j. cond (nat_le d j.deadline) j.deadline d) (cond b j.deadline d) jobs) × AllByRecursion
-      (λ i. i.deadline ≤ fold (λ d j. cond (nat_le d j.deadline) j.deadline d) (cond b j.deadline d) jobs) (j ∷ jobs)
-  by_test true low more = let at : j.deadline ≤ fold (λ d j. cond (nat_le d j.deadline) j.deadline d) j.deadline jobs =
-      (more j.deadline).0 in
-      let less : d ≤ j.deadline = leb-true _ _ low in (omega arith, (at, (more j.deadline).1))
-  by_test false high more = let at : d ≤ fold (λ d j. cond (nat_le d j.deadline) j.deadline d) d jobs = (more d).0 in
-      let less : j.deadline < d = leb-false _ _ high in (at, (omega arith, (more d).1))
-
 module _ (J : Instance) (valid : IsValid J) (s : State) (keeps : Keeps J s) where
   -- each job is due by the last deadline
-  due_by : Each (λ t. t.job.deadline ≤ last_deadline J.jobs) s.tasks
+  pub due_by : Each (λ t. t.job.deadline ≤ last_deadline J.jobs) s.tasks
   due_by = each_job (λ j. j.deadline ≤ last_deadline J.jobs) s.tasks
-      (subst (AllByRecursion (λ j. j.deadline ≤ last_deadline J.jobs)) (sym keeps.jobs) (fold_most J.jobs 0).1)
+      (subst (AllByRecursion (λ j. j.deadline ≤ last_deadline J.jobs)) (sym keeps.jobs) (dues_most J.jobs 0))
 
   -- where a job runs, the clock is before the last deadline
   running_early : Quiet s → (r : Task) → IsMember r s.tasks → r.role ≡ Running → s.clock < last_deadline J.jobs

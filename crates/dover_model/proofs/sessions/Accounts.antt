@@ -5,7 +5,7 @@ use Rattle.std.proofs.Common.{nat_lt, nat_le, ◌<◌, ◌&&◌, fold, option_ma
 use Rattle.std.proofs.Common.{append-nil}
 use Rattle.std.specs.Bool.{then_some}
 use Rattle.std.proofs.lemmas.Bool.{and_parts, and_right}
-use Rattle.dover_model.specs.Common.{Late, Full, last_tick, most_lines, Version, One}
+use Rattle.dover_model.specs.Common.{Late, Full, last_tick_in, most_lines, Version, One}
 use Rattle.dover_model.specs.Common.{Three, Refusal, JobFacts, job_numbers, IsRatio, is_ratio, fraction, with_factor}
 use Rattle.dover_model.specs.Common.{Declaration, with_jobs, AreShort, refusal_of, Item, JobItem, RefusedItem}
 use Rattle.dover_model.specs.Common.{FinishItem, refused_at, Session, with_item, Refused, RefusedDone, refusal_at}
@@ -84,7 +84,7 @@ pub record Holds (S : Session) (mark lines : ℕ) : Type 0 where
   pub reads : Reads S mark
   pub follows : FollowsItems S.rules [] 0 S.items
   pub last : mark_after 0 S.items ≤ mark
-  pub known : mark ≤ last_tick
+  pub known : mark ≤ last_tick_in S.rules.version
   pub few : length S.items + 1 ≤ lines
 
 -- an ended account: its session is valid, and its lines were read up to some mark
@@ -249,7 +249,7 @@ module _ (S : Session) (mark lines : ℕ) (holds : Holds S mark lines) where
       (begins_texts S.rules (lines_at S mark) (lines_at T later) begins)))
 
   -- a tick
-  tick_goes : (t : ℕ) → mark ≤ t → t ≤ last_tick → GoesOn so_far (account_with (suc lines) (Some S) t Open)
+  tick_goes : (t : ℕ) → mark ≤ t → t ≤ last_tick_in S.rules.version → GoesOn so_far (account_with (suc lines) (Some S) t Open)
   tick_goes t ordered known = (
     record {
       declared = holds.declared;
@@ -290,7 +290,7 @@ module _ (S : Session) (mark lines : ℕ) (holds : Holds S mark lines) where
           last = let at : mark_after 0 (S.items ++ JobItem j ∷ []) ≡ max (mark_after 0 S.items) j.release =
               mark_behind 0 S.items (JobItem j) in
               omega (arith, holds.last);
-          known = omega (arith, (job_limits admitted.job).window, (job_limits admitted.job).due);
+          known = omega (arith, (job_limits admitted.job).window, admitted.due);
           few = one_item (JobItem j);
         },
         lines_go (with_item S (JobItem j)) j.release refl
@@ -302,7 +302,8 @@ module _ (S : Session) (mark lines : ℕ) (holds : Holds S mark lines) where
       )
 
   -- a line that is refused, at the mark or later
-  line_refused : (r : Refused) → Reads S r.at → mark ≤ r.at → mark_after 0 S.items ≤ r.at → r.at ≤ last_tick
+  line_refused : (r : Refused) → Reads S r.at → mark ≤ r.at → mark_after 0 S.items ≤ r.at
+      → r.at ≤ last_tick_in S.rules.version
       → MayRefuse S r.at r.line
       → GoesOn so_far (account_with (suc lines) (Some (with_item S (RefusedItem r))) r.at Open)
   line_refused r reads ordered last known may = (
@@ -346,7 +347,7 @@ module _ (S : Session) (mark lines : ℕ) (holds : Holds S mark lines) where
       let admitted : Admitted S.rules (admitted_jobs S.items) j =
       not_refused S.rules (admitted_jobs S.items) j (full_in S j it.1).0 in
       line_refused r (reads_later S mark j.release holds.reads it.0) it.0 (omega (arith, it.0, holds.last))
-      (omega (arith, (job_limits admitted.job).window, (job_limits admitted.job).due))
+      (omega (arith, (job_limits admitted.job).window, admitted.due))
       (record { version = two; numerals = short; cause = full_here S j it.1; raised = refl })
 
   -- a job line that is refused
@@ -424,15 +425,15 @@ module _ (S : Session) (mark lines : ℕ) (holds : Holds S mark lines) where
   -- a tick line
   tick_line_goes : (t : ℕ)
       → GoesOn so_far (with_line counted (TickLine t) (later_line_cause S mark (TickLine t)))
-  tick_line_goes t = by_tests (nat_lt t mark) (nat_lt last_tick t) refl refl where
-    by_tests : (a b : Bool) → nat_lt t mark ≡ a → nat_lt last_tick t ≡ b
+  tick_line_goes t = by_tests (nat_lt t mark) (nat_lt (last_tick_in S.rules.version) t) refl refl where
+    by_tests : (a b : Bool) → nat_lt t mark ≡ a → nat_lt (last_tick_in S.rules.version) t ≡ b
         → GoesOn so_far (with_line counted (TickLine t) (cond (a || b) (Some Order) None))
     by_tests true b falls x = fault_goes Order
     by_tests false true x high = fault_goes Order
     by_tests false false ordered low = tick_goes t (ltb-false _ _ ordered) (ltb-false _ _ low)
 
   -- a done line that is right
-  finish_goes : (t n : ℕ) (f : EarlyFinish) → early_at S t n ≡ Some f → mark ≤ t → t ≤ last_tick
+  finish_goes : (t n : ℕ) (f : EarlyFinish) → early_at S t n ≡ Some f → mark ≤ t → t ≤ last_tick_in S.rules.version
       → GoesOn so_far (account_with (suc lines) (Some (with_item S (FinishItem f))) t Open)
   finish_goes t n f right ordered known =
       let says : FinishSays (instance_of S) t n f = early_says S t n f right in
@@ -466,7 +467,8 @@ module _ (S : Session) (mark lines : ℕ) (holds : Holds S mark lines) where
       )
 
   -- a done line that isn't
-  not_done_goes : (t n : ℕ) → AreShort (n ∷ []) → may_finish_early S.rules.version ≡ true → t ≤ last_tick
+  not_done_goes : (t n : ℕ) → AreShort (n ∷ []) → may_finish_early S.rules.version ≡ true
+      → t ≤ last_tick_in S.rules.version
       → is_right S mark t n ≡ false
       → GoesOn so_far
       (account_with (suc lines) (Some (with_item S (refused_done_at (max mark t) t n))) (max mark t) Open)
@@ -493,15 +495,16 @@ module _ (S : Session) (mark lines : ℕ) (holds : Holds S mark lines) where
   -- a done line
   done_line_goes : (t n : ℕ) → AreShort (t ∷ n ∷ [])
       → GoesOn so_far (with_line counted (DoneLine t n) (later_line_cause S mark (DoneLine t n)))
-  done_line_goes t n short = by_tests (may_finish_early S.rules.version) (nat_lt last_tick t) (is_right S mark t n)
+  done_line_goes t n short = by_tests (may_finish_early S.rules.version) (nat_lt (last_tick_in S.rules.version) t) (is_right S mark t n)
       refl refl refl where
-        by_early : (o : Option EarlyFinish) → early_at S t n ≡ o → t ≤ last_tick → (nat_le mark t && is_some o) ≡ true
+        by_early : (o : Option EarlyFinish) → early_at S t n ≡ o → t ≤ last_tick_in S.rules.version
+            → (nat_le mark t && is_some o) ≡ true
             → GoesOn so_far (account_with (suc lines) (Some (with_named S (option_map FinishItem o))) t Open)
         by_early None e known right = never (sym (and_right (nat_le mark t) false refl) ∙ right)
         by_early (Some f) e known right = finish_goes t n f e
             (leb-true _ _ (and_parts (nat_le mark t) true right).0) known
 
-        by_tests : (v a b : Bool) → may_finish_early S.rules.version ≡ v → nat_lt last_tick t ≡ a
+        by_tests : (v a b : Bool) → may_finish_early S.rules.version ≡ v → nat_lt (last_tick_in S.rules.version) t ≡ a
             → is_right S mark t n ≡ b
             → GoesOn so_far (with_line counted (DoneLine t n)
             (cond v (cond a (Some Order) (cond b None (Some NotDone))) (Some Line)))

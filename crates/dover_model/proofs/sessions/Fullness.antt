@@ -6,7 +6,8 @@ use Rattle.std.specs.List.{filter, fold, list_all}
 use Rattle.std.specs.Bool.{then_some}
 use Rattle.std.specs.Option.{option_or}
 use Rattle.std.proofs.lemmas.Bool.{lt-leb, leb-true, le-ltb, ltb-false}
-use Rattle.dover_model.specs.Common.{most_ready, most_jobs, most_total, Version, One, Two, Three, Refusal, BadJob}
+use Rattle.dover_model.specs.Common.{last_tick_in, most_ready, most_jobs, most_total, Version, One, Two, Three, Refusal}
+use Rattle.dover_model.specs.Common.{BadJob}
 use Rattle.dover_model.specs.Common.{Count, Total, Ratio, Late, Full, Task, JobFacts, is_job, Step, after, open_step}
 use Rattle.dover_model.specs.Common.{State, opening, to_come, Instance, Rules, total_value, refusal_of}
 use Rattle.dover_model.specs.Common.{is_within_ratio_both_ways, is_ready, settled_from, settled_state, waits_for_mark}
@@ -82,7 +83,8 @@ module _ (S : Session) (j : JobFacts) where
 
   -- never for that
   pub never_alone : alone ≡ Some Full → ⊥
-  never_alone = by_tests (not (is_job j)) (nat_le (most_jobs S.rules.version) (length (admitted_jobs S.items)))
+  never_alone = by_tests (not (is_job j && nat_le j.deadline (last_tick_in S.rules.version)))
+      (nat_le (most_jobs S.rules.version) (length (admitted_jobs S.items)))
       (nat_lt (most_total S.rules.version) (total_value (admitted_jobs S.items) + j.value))
       (not (list_all (λ i. is_within_ratio_both_ways S.rules.ratio i j) (admitted_jobs S.items))) where
         by_tests : (a b c d : Bool)

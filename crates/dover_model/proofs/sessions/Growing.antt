@@ -507,6 +507,7 @@ reads_new rules ratio = record {
   valid_new = valid_from (record {
     ratio = ratio;
     each = tt;
+    due = omega arith;
     in_order = tt;
     count = omega arith;
     total = omega arith;

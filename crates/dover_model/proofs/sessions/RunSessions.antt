@@ -5,7 +5,7 @@ use Rattle.std.proofs.Common.{MatchBool, count_by, filter}
 use Rattle.std.proofs.lemmas.List.Sums.{sum_by-cons}
 use Rattle.std.specs.List.{cons_option}
 use Rattle.std.proofs.lemmas.List.Elements.{filter_map-append}
-use Rattle.dover_model.specs.Common.{IsJob, last_tick, most_items, Complete, End, Running, Task, Finish, Instance}
+use Rattle.dover_model.specs.Common.{last_deadline, last_tick_in, most_items, Complete, End, Running, Task, Finish, Instance}
 use Rattle.dover_model.specs.Common.{IsValid, declared_by, having, finishing, State, opening, is_coming, is_running}
 use Rattle.dover_model.specs.Common.{is_privileged, is_over, running, left, Move, Prints, Ticks, step, open_step, after}
 use Rattle.dover_model.specs.Common.{Step, is_end, run, printed, printed_of, event_of, step_at, IsWholeRun, is_complete}
@@ -28,6 +28,7 @@ use Rattle.dover_model.proofs.steps.Shown.{early_says, Handed, coming_in, deed_i
 use Rattle.dover_model.proofs.steps.Shown.{Finishes}
 use Rattle.dover_model.proofs.finishes.EarlyEnds.{as_open, same_here, AreOf, shown_own, shown_all, path_of, opening_in}
 use Rattle.dover_model.proofs.finishes.EarlyEnds.{right_there}
+use Rattle.dover_model.proofs.runs.Ending.{due_by}
 use Rattle.dover_model.proofs.valid.Limiting.{items_enough}
 use Rattle.dover_model.proofs.valid.ValidParts.{valid_parts}
 use Rattle.dover_model.proofs.valid.JobLimits.{job_limits}
@@ -51,13 +52,14 @@ module _ (J : Instance) (valid : IsValid J) where
   deed_hands s item m _ e = none_is_some e
 
   -- the clock of a finish is within the limits
-  known_here : (s : State) → Keeps J s → (r : Task) → running s ≡ Some r → s.clock ≤ last_tick
+  known_here : (s : State) → Keeps J s → (r : Task) → running s ≡ Some r
+      → s.clock ≤ last_tick_in J.rules.version
   known_here s keeps r is =
       let it = found is_running s.tasks r is in
       let slack : s.clock + left r ≤ r.job.deadline = active_slack s keeps.sound r it.0
       (passes is_privileged r Running true (is_running_role r it.1) refl) in
-      let job : IsJob r.job = (realistic J valid s keeps).each r it.0 in
-      let due : r.job.deadline ≤ last_tick = (job_limits job).due in omega (arith, slack, due)
+      let due : r.job.deadline ≤ last_deadline J.jobs = due_by J valid s keeps r it.0 in
+      omega (arith, slack, due, (valid_parts valid).due)
 
   -- End shows nothing
   end_shows : (s : State) (m : Move) → is_end m ≡ true → handed_by (record { before = s; move = m }) ≡ None

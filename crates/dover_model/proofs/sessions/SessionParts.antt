@@ -2,7 +2,7 @@
 use Rattle.std.proofs.Common.{◌≡◌, ℕ, ◌^◌, ◌<◌, ◌≤◌, ◌↔◌, List, [], ◌∷◌, ◌++◌, length, max, Option, Some, None, IsTrue}
 use Rattle.std.proofs.Common.{refl, ap, subst, sym, ◌∙◌, Bool, true, false, not, eqb-true, eq-eqb, ◌==◌, ◌&&◌, nat_lt}
 use Rattle.dover_model.proofs.lists.Tests.{never, both, at_most, below, each}
-use Rattle.dover_model.specs.Common.{Refusal, BadJob, Count, Total, Ratio, Late, Full, last_tick, most_items, JobFacts}
+use Rattle.dover_model.specs.Common.{Refusal, BadJob, Count, Total, Ratio, Late, Full, last_tick_in, most_items, JobFacts}
 use Rattle.dover_model.specs.Common.{job_numbers, AreShort, Declaration, IsValid, Item, JobItem, RefusedItem}
 use Rattle.dover_model.specs.Common.{RefusedJob, Session, instance_of, refuses_lines, refusal_at, early_at, is_right}
 use Rattle.dover_model.specs.Common.{Refused, RefusedLine, RefusedDone, FinishItem, EarlyFinish, may_finish_early}
@@ -36,13 +36,13 @@ MayRefuse S mark (RefusedDone tick number) = MayRefuseDone S mark tick number
 -- a refused line may stand behind a session, at this mark
 pub record MayBeRefused (S : Session) (mark : ℕ) (r : Refused) : Type 0 where
   pub no_fall : mark ≤ r.at
-  pub known : r.at ≤ last_tick
+  pub known : r.at ≤ last_tick_in S.rules.version
   pub line : MayRefuse S r.at r.line
 
 -- a finish may stand behind a session, at this mark
 pub record MayFinish (S : Session) (mark : ℕ) (f : EarlyFinish) : Type 0 where
   pub no_fall : mark ≤ f.at
-  pub known : f.at ≤ last_tick
+  pub known : f.at ≤ last_tick_in S.rules.version
   pub right : early_at S f.at f.finish.number ≡ Some f
 
 -- a job that is valid with those before it may stand behind a session, at this mark
@@ -134,7 +134,7 @@ may_be_refused-agrees S mark r = (
   λ m. parts.1 ((m.no_fall, m.known), m.line),
 ) where
   parts : IsTrue (may_be_refused S mark r)
-      ↔ (((mark ≤ r.at) × (r.at ≤ last_tick)) × MayRefuse S r.at r.line)
+      ↔ (((mark ≤ r.at) × (r.at ≤ last_tick_in S.rules.version)) × MayRefuse S r.at r.line)
   parts = both _ _ (both _ _ (at_most _ _) (at_most _ _)) (may_refuse-agrees S r.at r.line)
 
 -- the finish is that one
@@ -173,7 +173,7 @@ may_finish-agrees S mark f = (
   λ m. parts.1 ((m.no_fall, m.known), m.right),
 ) where
   parts : IsTrue (may_finish S mark f)
-      ↔ (((mark ≤ f.at) × (f.at ≤ last_tick)) × (early_at S f.at f.finish.number ≡ Some f))
+      ↔ (((mark ≤ f.at) × (f.at ≤ last_tick_in S.rules.version)) × (early_at S f.at f.finish.number ≡ Some f))
   parts = both _ _ (both _ _ (at_most _ _) (at_most _ _)) (is_finish-agrees _ _)
 
 -- a job that may be admitted

@@ -4,7 +4,7 @@ use Rattle.std.proofs.Common.{length, map, take, drop, refl, sym, ap, ◌∙◌,
 use Rattle.std.proofs.Common.{nat_le, MatchBool, fold, filter, append-nil}
 use Rattle.std.specs.Bool.{then_some}
 use Rattle.std.specs.List.{AllByRecursion, list_all, cons_option}
-use Rattle.dover_model.specs.Common.{last_tick, JobFacts, IsJob, job_numbers, AreShort, Event, End, Task, Fraction}
+use Rattle.dover_model.specs.Common.{last_tick_in, JobFacts, IsJob, job_numbers, AreShort, Event, End, Task, Fraction}
 use Rattle.dover_model.specs.Common.{Rules, Declaration, Instance, IsValid, total_value, State, opening, is_over}
 use Rattle.dover_model.specs.Common.{is_done, value_sum, Move, Prints, Waits, Ticks, step, after, ending, ◌or_else◌}
 use Rattle.dover_model.specs.Common.{Step, is_end, event_of, printed_of, printed, run, last_deadline, IsWholeRun, Item}
@@ -22,30 +22,12 @@ use Rattle.dover_model.proofs.runs.Ending.{clock_after, tick_early, run_is_whole
 use Rattle.dover_model.proofs.sessions.Growing.{all_lines}
 use Rattle.dover_model.proofs.texts.TraceLines.{HasShortNumbers}
 use Rattle.dover_model.proofs.runs.Honest.{numbers_low, count_jobs}
-use Rattle.dover_model.proofs.valid.Limiting.{jobs_most, total_most}
+use Rattle.dover_model.proofs.valid.Limiting.{deadline_known, jobs_most, tick_most, total_most}
 use Rattle.dover_model.proofs.sessions.SessionParts.{MayRefuse, FollowsItems, session_parts, session_jobs}
 use Rattle.dover_model.proofs.valid.ValidParts.{valid_parts}
 use Rattle.dover_model.proofs.valid.JobLimits.{job_limits}
 
 -- ---- clocks
-
--- no deadline is after the last tick
-last_within : (bound : ℕ) (jobs : List JobFacts) (d : ℕ) → AllByRecursion (λ j. j.deadline ≤ bound) jobs → d ≤ bound
-    → fold (λ d j. cond (nat_le d j.deadline) j.deadline d) d jobs ≤ bound
-last_within bound [] d all low = low
-last_within bound (j ∷ jobs) d all low = by_test (nat_le d j.deadline) (last_within bound jobs) where
-  by_test : (b : Bool) → ((e : ℕ) → AllByRecursion (λ i. i.deadline ≤ bound) jobs → e ≤ bound
-      → fold (λ d j. cond (nat_le d j.deadline) j.deadline d) e jobs ≤ bound)
-      → fold (λ d j. cond (nat_le d j.deadline) j.deadline d) (cond b j.deadline d) jobs ≤ bound
-  by_test true more = more j.deadline all.1 all.0
-  by_test false more = more d all.1 low
-
--- the last deadline is a tick that may be named
-pub deadline_known : (J : Instance) → IsValid J → last_deadline J.jobs ≤ last_tick
-deadline_known J valid =
-    last_within last_tick J.jobs 0 (all_from IsJob (λ j. j.deadline ≤ last_tick) J.jobs
-    (λ j job. (job_limits job).due) (valid_parts valid).each)
-    (omega arith)
 
 module _ (J : Instance) (valid : IsValid J) (s : State) (keeps : Keeps J s) (rules : Rules) where
   -- a silent tick is taken before the last deadline
@@ -105,7 +87,7 @@ module _ (J : Instance) (valid : IsValid J) (s : State) (keeps : Keeps J s) (clo
       let it : IsJob t.job = each_job IsJob s.tasks
       (subst (AllByRecursion IsJob) (sym keeps.jobs) (valid_parts valid).each) t member in
       let window : t.job.release + t.job.work ≤ t.job.deadline = (job_limits it).window in
-      let due : t.job.deadline ≤ 1_000_000_000_000 = (job_limits it).due in
+      let due : t.job.deadline ≤ 10_000_000_000_000_000 = (job_limits it).due in
       let modest : t.job.value ≤ 1_000_000_000 = (job_limits it).modest in
       (omega arith, (omega arith, (omega arith, (omega arith, tt))))
 
@@ -218,11 +200,11 @@ put_in_short (p ∷ ps) before steps places all =
     )
 
 -- a line that may be refused is short
-line_short : (S : Session) (mark : ℕ) (line : RefusedLine) → mark ≤ last_tick → MayRefuse S mark line
+line_short : (S : Session) (mark : ℕ) (line : RefusedLine) → mark ≤ last_tick_in S.rules.version → MayRefuse S mark line
     → AreShort (refused_numbers line)
 line_short S mark (RefusedJob j refusal) known may = may.numerals
 line_short S mark (RefusedDone tick number) known may = (
-  (let most : mark ≤ 1_000_000_000_000 = known in omega (arith, may.no_later)),
+  omega (arith, known, tick_most S.rules.version, may.no_later),
   may.numerals,
 )
 
@@ -235,7 +217,7 @@ places_short rules before mark (JobItem j ∷ items) follows =
     places_short rules (before ++ JobItem j ∷ []) (max mark j.release) items follows.1
 places_short rules before mark (RefusedItem r ∷ items) follows = (
   (
-    (let known : r.at ≤ 1_000_000_000_000 = follows.0.known in omega arith),
+    omega (arith, follows.0.known, tick_most rules.version),
     line_short (session_with rules before) r.at r.line follows.0.known follows.0.line,
   ),
   places_short rules (before ++ RefusedItem r ∷ []) (max mark r.at) items follows.1,

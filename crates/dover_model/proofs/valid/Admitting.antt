@@ -1,18 +1,19 @@
 -- A job that is admitted keeps the jobs valid.
 use Rattle.std.proofs.Common.{◌≡◌, ℕ, ◌+◌, ◌≤◌, ◌<◌, List, [], ◌∷◌, ◌++◌, length, length-append, refl, Bool, true}
-use Rattle.std.proofs.Common.{false, cond, not, arith, Option, Some, None, ap, ◌∙◌, suc, nat_le, nat_lt, leb-false}
-use Rattle.std.proofs.Common.{ltb-false}
+use Rattle.std.proofs.Common.{false, cond, not, ◌&&◌, arith, Option, Some, None, ap, ◌∙◌, suc, nat_le, nat_lt, leb-false}
+use Rattle.std.proofs.Common.{ltb-false, le-leb, leb-true}
 use Rattle.std.specs.List.{AllByRecursion, list_all}
 use Rattle.std.proofs.Math.Nat.{mul-le-mul_right}
-use Rattle.std.proofs.lemmas.Bool.{not-false, lt-leb}
+use Rattle.std.proofs.lemmas.Bool.{not-false, lt-leb, and_parts, and_from}
 use Rattle.std.proofs.lemmas.List.Sums.{sum_by-append, sum_by-cons}
-use Rattle.dover_model.specs.Common.{most_jobs, most_total, Refusal, BadJob, Count, Total, Ratio, JobFacts, IsJob}
+use Rattle.dover_model.specs.Common.{last_deadline, last_tick_in, most_jobs, most_total, Refusal, BadJob, Count, Total, Ratio, JobFacts, IsJob}
 use Rattle.dover_model.specs.Common.{is_job, Fraction, Declaration, declared_by, IsValid, with_jobs, Instance}
 use Rattle.dover_model.specs.Common.{total_value, is_within_ratio_both_ways, refusal_of}
 use Rattle.dover_model.proofs.lists.Tests.{both, each}
 use Rattle.dover_model.proofs.sessions.Growing.{all_behind, instance_with}
 use Rattle.dover_model.proofs.lists.Members.{all_both, all_last}
-use Rattle.dover_model.proofs.valid.Valid.{all_front}
+use Rattle.dover_model.proofs.valid.Dues.{dues_most, last_within}
+use Rattle.dover_model.proofs.valid.Valid.{all_from, all_front}
 use Rattle.dover_model.proofs.valid.ValidParts.{valid_from, IsWithinRatio, is_within_ratio-agrees, ReleasesInOrder}
 use Rattle.dover_model.proofs.valid.ValidParts.{ValidParts, valid_parts}
 use Rattle.dover_model.proofs.valid.JobLimits.{ratio_limits}
@@ -49,6 +50,7 @@ within_itself k j above = mul-le-mul_right j.work (mul-le-mul_right j.value abov
 -- why a job is admitted
 pub record Admitted (rules : Declaration) (jobs : List JobFacts) (j : JobFacts) : Type 0 where
   pub job : IsJob j
+  pub due : j.deadline ≤ last_tick_in rules.version
   pub count : length jobs < most_jobs rules.version
   pub total : total_value jobs + j.value ≤ most_total rules.version
   pub densities : AllByRecursion (λ i. AreWithin rules.ratio i j) jobs
@@ -63,7 +65,9 @@ not_refused rules jobs j none =
     let ratio : Option Refusal = cond (not (list_all (λ i. is_within_ratio_both_ways k i j) jobs)) (Some Ratio) None in
     let total : Option Refusal = cond (nat_lt sum (total_value jobs + j.value)) (Some Total) ratio in
     let count : Option Refusal = cond (nat_le most (length jobs)) (Some Count) total in
-    let one : (not (is_job j) ≡ false) × (count ≡ None) = none_first (not (is_job j)) BadJob count none in
+    let tests : Bool = is_job j && nat_le j.deadline (last_tick_in rules.version) in
+    let one : (not tests ≡ false) × (count ≡ None) = none_first (not tests) BadJob count none in
+    let both_pass = and_parts (is_job j) (nat_le j.deadline (last_tick_in rules.version)) (not-false tests one.0) in
     let two : (nat_le most (length jobs) ≡ false) × (total ≡ None) =
     none_first (nat_le most (length jobs)) Count total one.1 in
     let three : (nat_lt sum (total_value jobs + j.value) ≡ false) × (ratio ≡ None) =
@@ -71,7 +75,8 @@ not_refused rules jobs j none =
     let four : (not (list_all (λ i. is_within_ratio_both_ways k i j) jobs) ≡ false) × (None ≡ None) =
     none_first (not (list_all (λ i. is_within_ratio_both_ways k i j) jobs)) Ratio None three.1 in
     record {
-      job = record { passes = (not-false (is_job j) one.0) };
+      job = record { passes = both_pass.0 };
+      due = leb-true _ _ both_pass.1;
       count = leb-false _ _ two.0;
       total = ltb-false _ _ three.0;
       densities = both_ways k j jobs (not-false _ four.0);
@@ -88,6 +93,10 @@ admits rules jobs j valid known none =
     valid_from (record {
       ratio = parts.ratio;
       each = all_behind IsJob jobs j parts.each it.job;
+      due = last_within _ (jobs ++ j ∷ []) (all_behind (λ i. i.deadline ≤ last_tick_in rules.version) jobs j
+          (all_from (λ i. i.deadline ≤ last_deadline jobs) (λ i. i.deadline ≤ last_tick_in rules.version) jobs
+          (λ i low. let last : last_deadline jobs ≤ last_tick_in rules.version = parts.due in omega arith)
+          (dues_most jobs 0)) it.due);
       in_order = order_behind jobs j parts.in_order known;
       count = omega (arith, length-append jobs (j ∷ []), it.count);
       total = let sums : total_value (jobs ++ j ∷ []) ≡ total_value jobs + total_value (j ∷ []) =
@@ -127,7 +136,13 @@ none_holds a b c d ea eb ec ed =
 -- a job that is valid behind others is admitted
 pub valid_admitted : (J : Instance) (j : JobFacts) → IsValid (with_jobs J (j ∷ []))
     → refusal_of (declared_by J.rules) J.jobs j ≡ None
-valid_admitted J j valid = none_holds _ _ _ _ (ap not ((all_last IsJob J.jobs j (valid_parts valid).each).passes))
+valid_admitted J j valid = none_holds _ _ _ _ (ap not (and_from (is_job j)
+    (nat_le j.deadline (last_tick_in J.rules.version)) (all_last IsJob J.jobs j (valid_parts valid).each).passes
+    (le-leb j.deadline (last_tick_in J.rules.version) (omega (
+      arith,
+      (valid_parts valid).due,
+      all_last (λ i. i.deadline ≤ last_deadline (J.jobs ++ j ∷ [])) J.jobs j (dues_most (J.jobs ++ j ∷ []) 0),
+    )))))
     (lt-leb (most_jobs J.rules.version) (length J.jobs) (omega
     (arith, (valid_parts valid).count, length-append J.jobs (j ∷ []))))
     (lt-leb (suc (most_total J.rules.version)) (total_value J.jobs + j.value)

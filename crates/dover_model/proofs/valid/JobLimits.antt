@@ -1,6 +1,6 @@
 -- The limits of a ratio and of a job, one by one, as facts.
 use Rattle.std.proofs.Common.{◌+◌, ◌≤◌, ◌<◌, ◌↔◌, IsTrue, Some}
-use Rattle.dover_model.specs.Common.{most_p, most_q, last_tick, most_value, Fraction, IsRatio, is_ratio, is_some_factor}
+use Rattle.dover_model.specs.Common.{most_p, most_q, last_tick, most_value, most_work, Fraction, IsRatio, is_ratio, is_some_factor}
 use Rattle.dover_model.specs.Common.{Factor, JobFacts, IsJob, is_job}
 use Rattle.dover_model.specs.Fraction.{is_factor}
 use Rattle.dover_model.proofs.lists.Tests.{both, at_most, below}
@@ -67,6 +67,7 @@ ratio_from {k} limits = record { passes = (limits_of_ratio k).1 limits }
 -- its limits
 pub record JobLimits (j : JobFacts) : Type 0 where
   pub work : 1 ≤ j.work
+  pub small : j.work ≤ most_work
   pub window : j.release + j.work ≤ j.deadline
   pub due : j.deadline ≤ last_tick
   pub worth : 1 ≤ j.value
@@ -75,14 +76,21 @@ pub record JobLimits (j : JobFacts) : Type 0 where
 -- as the test says
 limits_of_job : (j : JobFacts) → IsTrue (is_job j) ↔ JobLimits j
 limits_of_job j = (
-  λ h. let f = parts.0 h in record { work = f.0.0.0.0; window = f.0.0.0.1; due = f.0.0.1; worth = f.0.1; modest = f.1 },
-  λ r. parts.1 ((((r.work, r.window), r.due), r.worth), r.modest),
+  λ h. let f = parts.0 h in record {
+    work = f.0.0.0.0.0;
+    small = f.0.0.0.0.1;
+    window = f.0.0.0.1;
+    due = f.0.0.1;
+    worth = f.0.1;
+    modest = f.1;
+  },
+  λ r. parts.1 (((((r.work, r.small), r.window), r.due), r.worth), r.modest),
 ) where
   parts : IsTrue (is_job j)
-      ↔ (((((1 ≤ j.work) × (j.release + j.work ≤ j.deadline)) × (j.deadline ≤ last_tick)) × (1 ≤ j.value)) ×
-      (j.value ≤ most_value))
-  parts = both _ _ (both _ _ (both _ _ (both _ _ (at_most _ _) (at_most _ _)) (at_most _ _)) (at_most _ _))
-      (at_most _ _)
+      ↔ ((((((1 ≤ j.work) × (j.work ≤ most_work)) × (j.release + j.work ≤ j.deadline)) × (j.deadline ≤ last_tick))
+      × (1 ≤ j.value)) × (j.value ≤ most_value))
+  parts = both _ _ (both _ _ (both _ _ (both _ _ (both _ _ (at_most _ _) (at_most _ _)) (at_most _ _)) (at_most _ _))
+      (at_most _ _)) (at_most _ _)
 
 -- a job is within its limits
 pub job_limits : {j : JobFacts} → IsJob j → JobLimits j

@@ -5,6 +5,7 @@ use Rattle.std.specs.List.{AllByRecursion}
 use Rattle.std.proofs.lemmas.List.Sums.{sum_by-cons}
 use Rattle.dover_model.specs.Common.{JobFacts, IsJob, Instance, IsValid, with_jobs, known_at, Each}
 use Rattle.dover_model.proofs.lists.Members.{all_member}
+use Rattle.dover_model.proofs.valid.Dues.{last_front}
 use Rattle.dover_model.proofs.valid.ValidParts.{IsWithinRatio, ReleasesInOrder, ValidParts, valid_parts, valid_from}
 
 -- what holds of all holds of the first
@@ -49,6 +50,7 @@ pub valid_front : (J : Instance) (more : List JobFacts) → IsValid (with_jobs J
 valid_front J more valid = valid_from (record {
   ratio = parts.ratio;
   each = all_front IsJob J.jobs more parts.each;
+  due = omega (arith, parts.due, last_front J.jobs more);
   in_order = order_front J.jobs more parts.in_order;
   count = omega (arith, parts.count, length_front J.jobs more);
   total = omega (arith, parts.total, sum_front (λ j. j.value) J.jobs more);

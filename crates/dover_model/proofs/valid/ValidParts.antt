@@ -1,7 +1,7 @@
 -- The parts of valid jobs: what their tests say of each job and of each two, as facts.
 use Rattle.std.proofs.Common.{◌*◌, ◌≤◌, ◌↔◌, List, [], ◌∷◌, length, IsTrue, refl}
 use Rattle.std.specs.List.{AllByRecursion}
-use Rattle.dover_model.specs.Common.{most_jobs, most_total, JobFacts, IsJob, Fraction, IsRatio, Instance, IsInOrder}
+use Rattle.dover_model.specs.Common.{last_deadline, last_tick_in, most_jobs, most_total, JobFacts, IsJob, Fraction, IsRatio, Instance, IsInOrder}
 use Rattle.dover_model.specs.Common.{IsValid, is_valid, is_within_ratio, total_value}
 use Rattle.dover_model.specs.Instance.{is_in_order}
 use Rattle.dover_model.proofs.lists.Tests.{both, at_most, each}
@@ -43,6 +43,7 @@ order_from {jobs} parts = record { passes = (order_agrees jobs).1 parts }
 pub record ValidParts (J : Instance) : Type 0 where
   pub ratio : IsRatio J.rules.ratio
   pub each : AllByRecursion IsJob J.jobs
+  pub due : last_deadline J.jobs ≤ last_tick_in J.rules.version
   pub in_order : ReleasesInOrder J.jobs
   pub count : length J.jobs ≤ most_jobs J.rules.version
   pub total : total_value J.jobs ≤ most_total J.rules.version
@@ -52,23 +53,25 @@ pub record ValidParts (J : Instance) : Type 0 where
 valid_agrees : (J : Instance) → IsTrue (is_valid J) ↔ ValidParts J
 valid_agrees J = (
   λ h. let f = parts.0 h in record {
-    ratio = f.0.0.0.0.0;
-    each = f.0.0.0.0.1;
+    ratio = f.0.0.0.0.0.0;
+    each = f.0.0.0.0.0.1;
+    due = f.0.0.0.0.1;
     in_order = f.0.0.0.1;
     count = f.0.0.1;
     total = f.0.1;
     densities =
         f.1;
   },
-  λ r. parts.1 (((((r.ratio, r.each), r.in_order), r.count), r.total), r.densities),
+  λ r. parts.1 ((((((r.ratio, r.each), r.due), r.in_order), r.count), r.total), r.densities),
 ) where
   parts : IsTrue (is_valid J)
-      ↔ (((((IsRatio J.rules.ratio × AllByRecursion IsJob J.jobs) × ReleasesInOrder J.jobs)
+      ↔ ((((((IsRatio J.rules.ratio × AllByRecursion IsJob J.jobs)
+      × (last_deadline J.jobs ≤ last_tick_in J.rules.version)) × ReleasesInOrder J.jobs)
       × (length J.jobs ≤ most_jobs J.rules.version)) ×
       (total_value J.jobs ≤ most_total J.rules.version))
       × AllByRecursion (λ i. AllByRecursion (IsWithinRatio J.rules.ratio i) J.jobs) J.jobs)
-  parts = both _ _ (both _ _ (both _ _ (both _ _ (both _ _ (λ h. record { passes = h }, λ ratio. ratio.passes)
-      (each _ _ job_passes _))
+  parts = both _ _ (both _ _ (both _ _ (both _ _ (both _ _ (both _ _ (λ h. record { passes = h }, λ ratio. ratio.passes)
+      (each _ _ job_passes _)) (at_most _ _))
       (order_agrees _)) (at_most _ _))
       (at_most _ _)) (each _ _ (λ i. each _ _ (λ j. is_within_ratio-agrees J.rules.ratio i j) J.jobs) J.jobs)
 
