@@ -130,14 +130,10 @@ module _ (a b : Task) (p q : ℕ) (apart : a.number ≢ b.number) (a_job : IsJob
   b_some = let some : 1 ≤ b.job.work = (job_limits b_job).work in omega (arith, some)
 
   fine : a.job.work * b.job.work ≤ 2 ^ 80
-  fine =
-      let both : a.job.work * b.job.work ≤ 1_000_000_000_000 * 1_000_000_000_000 =
-      mul-le a.job.work b.job.work 1_000_000_000_000 1_000_000_000_000 (most_work a_job) (most_work b_job) in
-      omega (arith, both) where
-        most_work : {j : _} → IsJob j → j.work ≤ 1_000_000_000_000
-        most_work {j} job = let fits : j.release + j.work ≤ j.deadline = (job_limits job).window in
-            let known : j.deadline ≤ 1_000_000_000_000 = (job_limits job).due in
-            omega (arith, fits, known)
+  fine = omega (
+    arith,
+    mul-le a.job.work b.job.work 1_000_000_000_000 1_000_000_000_000 (job_limits a_job).small (job_limits b_job).small,
+  )
 
   a_modest : a.job.value ≤ 1_000_000_000
   a_modest = (job_limits a_job).modest

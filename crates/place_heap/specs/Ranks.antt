@@ -1,10 +1,7 @@
 -- A rank gives back the numbers that it keeps.
 use Rattle.std.specs.Prelude.{◌≡◌, ℕ}
 use Rattle.std.proofs.Common.{arith}
-use Rattle.place_heap.specs.Items.{rank_of, facts_of, low_of, facts_in}
+use Rattle.place_heap.specs.Items.{facts_of, low_of}
 
-pub back_in_one : (rank : ℕ) → rank_of (facts_of rank) ≡ rank
-back_in_one rank = omega arith
-
-pub back_in_two : (key low : ℕ) → low_of (facts_in key low) ≡ low
-back_in_two key low = omega arith
+pub low_back : (key low place : ℕ) → low_of (facts_of key low place) ≡ low
+low_back key low place = omega arith

@@ -27,7 +27,7 @@ impl<R: Rank> Clone for Item<R> {
 
 impl<R: Rank> Copy for Item<R> {}
 
-const _: () = prove!(size_of::<Item<ShortRank>>() == 16);
+const _: () = prove!(size_of::<Item<ShortRank>>() == 24);
 
 impl<R: Rank> Model for Item<R> {
     ghost use Rattle.std.proofs.Common.{ap};
@@ -54,8 +54,7 @@ impl<R: Rank> Item<R> {
     /// Where the caller keeps it.
     #[inline(always)]
     pub fn place(&self) -> u32
-        ensures is { result ≡ self.now.place }
-        ensures small { result < 2 ^ 20 }
+        ensures { result ≡ self.now.place }
     {
         self.rank.place()
     }
@@ -76,11 +75,9 @@ impl<R: Rank> Item<R> {
 }
 
 impl Item<ShortRank> {
-    /// The item of these four numbers. The ticks of a feed are below 2^40.
+    /// The item of these four numbers.
     #[inline(always)]
     pub fn new(key: u64, tie: u32, number: u32, place: u32) -> Item<ShortRank>
-        requires key { key < 2 ^ 44 }
-        requires place { place < 2 ^ 20 }
         ensures { result ≡ record { key = key; tie = tie; number = number; place = place } }
     {
         Item::of(ShortRank::new(key, tie, number, place))
@@ -99,8 +96,7 @@ impl Item<LongRank> {
     /// The item of these four numbers.
     #[inline(always)]
     pub fn long(key: u128, tie: u128, number: u32, place: u32) -> Item<LongRank>
-        requires tie { tie < 2 ^ 76 }
-        requires place { place < 2 ^ 20 }
+        requires { tie < 2 ^ 96 }
         ensures { result ≡ record { key = key; tie = tie; number = number; place = place } }
     {
         Item::of(LongRank::new(key, tie, number, place))

@@ -1,17 +1,13 @@
 //! How the four numbers of an item are kept.
-ghost use Rattle.std.specs.Prelude.{◌≡◌, ◌*◌, ◌+◌, ◌<◌, ◌^◌};
+ghost use Rattle.std.specs.Prelude.{◌≡◌, ◌<◌, ◌^◌};
 ghost use Rattle.std.proofs.Common.{ap};
-ghost use Rattle.place_heap.specs.Items.{ItemFacts, is_before, rank_of, facts_of, low_of, facts_in};
-ghost use Rattle.place_heap.specs.Ranks.{back_in_one, back_in_two};
+ghost use Rattle.place_heap.specs.Items.{ItemFacts, is_before, facts_of, low_of};
+ghost use Rattle.place_heap.specs.Ranks.{low_back};
 
 use std::mem::size_of;
 
-// What one of the number, of the tie and of the key counts for in a rank.
-const NUMBER: u128 = 1 << 20;
-
-const TIE: u128 = 1 << 52;
-
-const KEY: u128 = 1 << 84;
+// How many numbers a job may have, which is what a tie counts for beside one.
+const NUMBERS: u128 = 1 << 32;
 
 /// The four numbers of an item, kept so that two are compared fast.
 pub trait Rank: Copy {
@@ -26,101 +22,108 @@ pub trait Rank: Copy {
 
     /// The place.
     fn place(self) -> u32
-        ensures is { result ≡ (facts self).place }
-        ensures small { result < 2 ^ 20 };
+        ensures { result ≡ (facts self).place };
 
     /// Whether it comes before the other.
     fn is_before(self, other: Self) -> bool
         ensures { result ≡ is_before (facts self) (facts other) };
 }
 
-/// A key below 2^44 and a tie below 2^32 in one number with the rest, so that a comparison is one of two numbers.
+/// A key of one word, and a tie below 2^32 in another with the number.
 #[derive(Clone, Copy)]
 pub struct ShortRank {
-    rank: u128,
+    key: u64,
+    low: u64,
+    place: u32,
 }
 
-const _: () = prove!(size_of::<ShortRank>() == 16);
+const _: () = prove!(size_of::<ShortRank>() == 24);
 
 impl ShortRank {
     /// The rank of these four numbers.
     #[inline(always)]
     pub(crate) fn new(key: u64, tie: u32, number: u32, place: u32) -> ShortRank
-        requires key { key < 2 ^ 44 }
-        requires place { place < 2 ^ 20 }
-        ensures { facts_of result.rank ≡ record { key = key; tie = tie; number = number; place = place } }
+        ensures { facts_of result.key result.low result.place
+            ≡ record { key = key; tie = tie; number = number; place = place } }
     {
         ShortRank {
-            rank: key as u128 * KEY
-                + (tie as u128 * TIE + (number as u128 * NUMBER + place as u128)),
+            key,
+            low: tie as u64 * NUMBERS as u64 + number as u64,
+            place,
         }
     }
 
     /// The key.
     #[inline(always)]
     pub(crate) fn key(self) -> u64
-        ensures { result ≡ (facts_of self.rank).key }
+        ensures { result ≡ self.key }
     {
-        (self.rank / KEY) as u64
+        self.key
     }
 }
 
 impl Rank for ShortRank {
-    ghost facts = { λ r. facts_of r.rank };
+    ghost facts = { λ r. facts_of r.key r.low r.place };
 
-    ghost of_facts = { λ facts. record { rank = rank_of facts } };
+    ghost of_facts = { λ i. record { key = i.key; low = low_of i; place = i.place } };
 
-    ghost back = { λ r. ap (λ n. record { rank = n }) (back_in_one r.rank) };
+    ghost back = { λ r. ap (λ n. record { key = r.key; low = n; place = r.place }) (low_back r.key r.low r.place) };
 
     #[inline(always)]
     fn place(self) -> u32 {
-        (self.rank % KEY % TIE % NUMBER) as u32
+        self.place
     }
 
     #[inline(always)]
     fn is_before(self, other: ShortRank) -> bool {
-        self.rank < other.rank
+        self.key < other.key
+            || (self.key == other.key
+                && (self.low < other.low || (self.low == other.low && self.place < other.place)))
     }
 }
 
-/// A key below 2^128 in one number, and a tie below 2^76 in another with the rest.
+/// A key below 2^128, and a tie below 2^96 in another number with that of the job.
 #[derive(Clone, Copy)]
 pub struct LongRank {
-    high: u128,
+    key: u128,
     low: u128,
+    place: u32,
 }
 
-const _: () = prove!(size_of::<LongRank>() == 32);
+const _: () = prove!(size_of::<LongRank>() == 48);
 
 impl LongRank {
     /// The rank of these four numbers.
     #[inline(always)]
     pub(crate) fn new(key: u128, tie: u128, number: u32, place: u32) -> LongRank
-        requires tie { tie < 2 ^ 76 }
-        requires place { place < 2 ^ 20 }
-        ensures { facts_in result.high result.low ≡ record { key = key; tie = tie; number = number; place = place } }
+        requires { tie < 2 ^ 96 }
+        ensures { facts_of result.key result.low result.place
+            ≡ record { key = key; tie = tie; number = number; place = place } }
     {
         LongRank {
-            high: key,
-            low: tie * TIE + (number as u128 * NUMBER + place as u128),
+            key,
+            low: tie * NUMBERS + number as u128,
+            place,
         }
     }
 }
 
 impl Rank for LongRank {
-    ghost facts = { λ r. facts_in r.high r.low };
+    ghost facts = { λ r. facts_of r.key r.low r.place };
 
-    ghost of_facts = { λ facts. record { high = facts.key; low = low_of facts } };
+    ghost of_facts = { λ i. record { key = i.key; low = low_of i; place = i.place } };
 
-    ghost back = { λ r. ap (λ n. record { high = r.high; low = n }) (back_in_two r.high r.low) };
+    ghost back = { λ r. ap (λ n. record { key = r.key; low = n; place = r.place }) (low_back r.key r.low r.place) };
 
     #[inline(always)]
     fn place(self) -> u32 {
-        (self.low % TIE % NUMBER) as u32
+        self.place
     }
 
     #[inline(always)]
     fn is_before(self, other: LongRank) -> bool {
-        self.high < other.high || (self.high == other.high && self.low < other.low)
+        self.key < other.key
+            || (self.key == other.key
+                && (self.low < other.low || (self.low == other.low && self.place < other.place)))
     }
 }

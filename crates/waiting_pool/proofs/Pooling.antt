@@ -292,10 +292,6 @@ module _ (v : Version) (slots : List (Option Task)) (places : List ℕ) (d l e :
     pub add_inside : p < length slots
     add_inside = within slots p None add_free
 
-    pub add_small : p < 1_048_576
-    add_small = let few : length slots ≤ 1_048_576 = pool.few in let inside : p < length slots = add_inside in
-        omega arith
-
     pub add_due_ready : p < length d
     add_due_ready = table_within (item_by_deadline v) slots d p add_inside pool.due
 

@@ -1,7 +1,7 @@
 -- A job at a moment, as it is kept in little room.
 use Rattle.std.specs.Prelude.{ℕ, ◌^◌, ◌-◌}
-use Rattle.dover_model.specs.JobFacts.{JobFacts, IsJob}
-use Rattle.dover_model.specs.Packing.{job_of}
+use Rattle.dover_model.specs.JobFacts.{JobFacts, IsJob, job_of_numbers}
+use Rattle.dover_model.specs.Packing.{joined}
 use Rattle.dover_model.specs.declared.events.Task.{Task}
 use Rattle.waiting_pool.specs.declared.short.ShortTask.TheInside.{Inside}
 
@@ -11,7 +11,7 @@ no_number = 2 ^ 32 - 1
 
 -- what the fields stand for
 abbrev pub job_in : Inside → JobFacts
-job_in s = job_of s.release s.work s.deadline s.release_high s.work_high s.deadline_high s.value
+job_in s = job_of_numbers s.release (joined s.work s.work_high) s.deadline s.value
 
 abbrev pub task_in : Inside → Task
 task_in s = record { number = s.number; job = job_in s; role = s.role; had = s.had }

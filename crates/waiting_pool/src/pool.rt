@@ -61,7 +61,6 @@ impl Model for Pool {
 // The item of the job by its deadline.
 #[inline(always)]
 fn due_item(version: Version, place: u32, t: &Task) -> Item<ShortRank>
-    requires { place < 2 ^ 20 }
     ensures { result ≡ due_item version place (entry_of t.now) }
 {
     Item::new(
@@ -75,7 +74,6 @@ fn due_item(version: Version, place: u32, t: &Task) -> Item<ShortRank>
 // The item of the job by its latest start.
 #[inline(always)]
 fn latest_item(version: Version, place: u32, t: &Task) -> Item<ShortRank>
-    requires { place < 2 ^ 20 }
     ensures { result ≡ latest_item version place (entry_of t.now) }
 {
     Item::new(
@@ -103,7 +101,6 @@ fn density_of(value: u64, work: u64) -> u128
 // The item of the job by its density. Its place, number and deadline are compared where densities are equal.
 #[inline(always)]
 fn dense_item(place: u32, t: &Task) -> Item<LongRank>
-    requires { place < 2 ^ 20 }
     ensures { result ≡ dense_item place t.now }
 {
     let (value, work, deadline) = (t.job.value(), t.job.work(), t.job.deadline());
@@ -121,7 +118,6 @@ fn add_dense<L: Ledger>(
     t: &Task,
     comparisons: &mut Comparisons<L>,
 )
-    requires small { place < 2 ^ 20 }
     requires ready { IsByDensity version → place < length heap.old }
     requires free { IsByDensity version → slice_index_or heap.old place None ≡ None }
     ensures in_it { IsByDensity version → heap.new ≡ slice_set heap.old place (item_by_density place t.now) }

@@ -12,18 +12,16 @@ use std::mem::size_of;
 /// The number of no job.
 pub(crate) const NO_NUMBER: u32 = u32::MAX;
 
-/// A job at a moment, in 32 bytes. Its ticks are below 2^40, so that each is kept as its low 32 digits and the others.
+/// A job at a moment, in 40 bytes. Its work is below 2^40, so that it is kept as its low 32 digits and the others.
 #[derive(Drop)]
 pub struct ShortTask {
     had: u64,
+    release: u64,
+    deadline: u64,
     number: u32,
     value: u32,
-    release: u32,
     work: u32,
-    deadline: u32,
-    release_high: u8,
     work_high: u8,
-    deadline_high: u8,
     role: Role,
 }
 
@@ -35,7 +33,7 @@ impl Model for ShortTask {
     ghost invariant = { IsShort };
 }
 
-const _: () = prove!(size_of::<ShortTask>() == 32);
+const _: () = prove!(size_of::<ShortTask>() == 40);
 
 impl ShortTask {
     /// What stands for no job.
@@ -45,14 +43,12 @@ impl ShortTask {
     {
         ShortTask {
             had: 0,
+            release: 0,
+            deadline: 1,
             number: NO_NUMBER,
             value: 1,
-            release: 0,
             work: 1,
-            deadline: 1,
-            release_high: 0,
             work_high: 0,
-            deadline_high: 0,
             role: Role::Gone,
         }
     }
@@ -62,17 +58,15 @@ impl ShortTask {
     pub fn of(t: &Task) -> ShortTask
         ensures { result ≡ t.now }
     {
-        let (release, work, deadline) = (t.job.release(), t.job.work(), t.job.deadline());
+        let work = t.job.work();
         ShortTask {
             had: t.had,
+            release: t.job.release(),
+            deadline: t.job.deadline(),
             number: t.number,
             value: t.job.value() as u32,
-            release: low_of(release),
             work: low_of(work),
-            deadline: low_of(deadline),
-            release_high: high_of(release) as u8,
             work_high: high_of(work) as u8,
-            deadline_high: high_of(deadline) as u8,
             role: t.role,
         }
     }
@@ -99,7 +93,7 @@ impl ShortTask {
     pub fn deadline(&self) -> u64
         ensures { result ≡ self.now.job.deadline }
     {
-        joined(self.deadline, u32::from(self.deadline_high))
+        self.deadline
     }
 
     /// Its work.
@@ -132,12 +126,10 @@ impl ShortTask {
     pub fn task(&self) -> Task
         ensures { result ≡ self.now }
     {
-        let release = joined(self.release, u32::from(self.release_high));
-        let work = joined(self.work, u32::from(self.work_high));
-        let deadline = joined(self.deadline, u32::from(self.deadline_high));
+        let work = self.work();
         Task {
             number: self.number,
-            job: Job::of(release, work, deadline, self.value as u64),
+            job: Job::of(self.release, work, self.deadline, self.value as u64),
             role: self.role,
             had: self.had,
         }

@@ -12,7 +12,7 @@ returns-clause-indexed g c =
     ∙ ap (λ r. if is_ok r then old ++ x ∷ [] else old) c.unwrap.ensures in
     let len : c.len-at.result ≡ length old = search rules in
     let few : length old + 1 ≤ nowhere = omega (arith, c.requires.few) in
-    subst (λ p. IsIndexed c.push.new.self.items (set c.args.positions.now p c.len-at.result)) (sym c.place.ensures.is)
+    subst (λ p. IsIndexed c.push.new.self.items (set c.args.positions.now p c.len-at.result)) (sym c.place.ensures)
     (subst (λ n. IsIndexed c.push.new.self.items (set c.args.positions.now x.place n)) (sym len)
     (put_indexed _ _ _ _ items c.requires.ready few c.requires.free c.requires.indexed))
 
@@ -24,6 +24,6 @@ returns-clause-table g c =
     ∙ ap (λ r. if is_ok r then old ++ x ∷ [] else old) c.unwrap.ensures in
     let len : c.len-at.result ≡ length old = search rules in
     let few : length old + 1 ≤ nowhere = omega (arith, c.requires.few) in
-    ap (λ p. table_of c.push.new.self.items (set c.args.positions.now p c.len-at.result)) c.place.ensures.is
+    ap (λ p. table_of c.push.new.self.items (set c.args.positions.now p c.len-at.result)) c.place.ensures
     ∙ ap (λ n. table_of c.push.new.self.items (set c.args.positions.now x.place n)) len
     ∙ put_table _ _ _ _ items c.requires.ready few c.requires.free c.requires.indexed

@@ -31,7 +31,7 @@ returns-clause-indexed g c =
     let items_is = c.set_at.ensures.items ∙ ap (λ l. set l at x) c.deref_mut.ensures.value in
     let out_at = c.index.ensures ∙ get_or_default front at c.index.result.now blank at_in in
     let positions_is = c.set_at.ensures.positions
-    ∙ ap (λ p. set (set ps p nowhere) x.place at) (c.place.ensures.is ∙ ap (λ y. y.place) out_at) in
+    ∙ ap (λ p. set (set ps p nowhere) x.place at) (c.place.ensures ∙ ap (λ y. y.place) out_at) in
     subst (λ l. IsIndexed l c.set_at.new.positions) (sym (whole ∙ items_is))
     (subst (IsIndexed (set front at x)) (sym positions_is)
     (fill_indexed old front ps x is few c.requires.indexed at at_in))
@@ -50,7 +50,7 @@ returns-clause-table g c d =
     let items_is = c.set_at.ensures.items ∙ ap (λ l. set l at x) c.deref_mut.ensures.value in
     let out_at = c.index.ensures ∙ get_or_default front at c.index.result.now blank at_in in
     let positions_is = c.set_at.ensures.positions
-    ∙ ap (λ p. set (set ps p nowhere) x.place at) (c.place.ensures.is ∙ ap (λ y. y.place) out_at) in
+    ∙ ap (λ p. set (set ps p nowhere) x.place at) (c.place.ensures ∙ ap (λ y. y.place) out_at) in
     ap (λ l. table_of l c.set_at.new.positions) (whole ∙ items_is) ∙ ap (table_of (set front at x)) positions_is
     ∙ fill_table old front ps x is few c.requires.indexed at at_in
     ∙ ap (λ y. set (table_of old ps) y.place None) (sym (out_is old front ps x is few c.requires.indexed at at_in d))

@@ -10,7 +10,7 @@ returns-clause-indexed g c =
     let is : c.args.items.now.items ≡ rest ++ x ∷ [] = c.pop.ensures.items
     ∙ ap (λ o. rest ++ option_to_list o) c.unwrap-last.ensures in
     let few : length c.args.items.now.items ≤ nowhere = omega (arith, c.requires.few) in
-    subst (λ p. IsIndexed rest (set c.args.positions.now p nowhere)) (sym c.place.ensures.is)
+    subst (λ p. IsIndexed rest (set c.args.positions.now p nowhere)) (sym c.place.ensures)
     (drop_indexed c.args.items.now.items rest c.args.positions.now x is few c.requires.indexed)
 
 pub returns-clause-table : goal.returns-clause-table
@@ -20,7 +20,7 @@ returns-clause-table g c d =
     let x = c.unwrap-last.result in
     let is : old ≡ rest ++ x ∷ [] = c.pop.ensures.items ∙ ap (λ o. rest ++ option_to_list o) c.unwrap-last.ensures in
     let few : length old ≤ nowhere = omega (arith, c.requires.few) in
-    ap (λ p. table_of rest (set c.args.positions.now p nowhere)) c.place.ensures.is
+    ap (λ p. table_of rest (set c.args.positions.now p nowhere)) c.place.ensures
     ∙ drop_table old rest c.args.positions.now x is few c.requires.indexed
     ∙ ap (λ y. set (table_of old c.args.positions.now) y.place None)
     (sym (back old rest c.args.positions.now x is few c.requires.indexed d))

@@ -6,7 +6,7 @@ use Rattle.dover_model.specs.Entries.{entry_of}
 use Rattle.waiting_pool.specs.Reordered.{IsReordered}
 use Rattle.waiting_pool.specs.Pools.{Pooled, IsPool, item_by_density, jobs_at, orders_of}
 use Rattle.waiting_pool.proofs.Places.{same_length, jobs_in}
-use Rattle.waiting_pool.proofs.Pooling.{add_free, add_inside, add_small, add_kept, add_due_ready}
+use Rattle.waiting_pool.proofs.Pooling.{add_free, add_inside, add_kept, add_due_ready}
 use Rattle.waiting_pool.proofs.Pooling.{add_latest_ready, add_due_free, add_latest_free}
 use Rattle.waiting_pool.proofs.Pooling.{add_due_count, add_latest_count, add_dense_ready, add_dense_free}
 use Rattle.waiting_pool.proofs.Pooling.{add_dense_count}
@@ -45,13 +45,6 @@ pool g c =
     (λ by. omega (arith, fit, c.self.invariant.1.dense_fit by))
     (omega (arith, fit, c.self.invariant.1.most))
 
-pub due_item-due-requires : goal.due_item-due-requires
-due_item-due-requires g c = add_small _ _ _ _ _ _ _ (pool g (goal.at.due_item-due-requires g c).After-next_place-place)
-
-pub latest_item-latest-requires : goal.latest_item-latest-requires
-latest_item-latest-requires g c = add_small _ _ c.next_place-place.new.free.items _ _ _ c.next_place-place.result
-    (pool g (goal.at.latest_item-latest-requires g c).After-next_place-place)
-
 pub put_at-requires-clause-inside : goal.put_at-requires-clause-inside
 put_at-requires-clause-inside g c = add_inside _ _ c.next_place-place.new.free.items _ _ _ c.next_place-place.result
     (pool g (goal.at.put_at-requires-clause-inside g c).After-next_place-place)
@@ -75,10 +68,6 @@ pub insert-requires-2-clause-free : goal.insert-requires-2-clause-free
 insert-requires-2-clause-free g c =
     subst (λ (i : ItemFacts). get_or c.self.inside.by_latest i.place None ≡ None) (sym c.latest_item-latest.ensures)
     (add_latest_free _ _ _ _ _ _ _ (pool g (goal.at.insert-requires-2-clause-free g c).After-next_place-place))
-
-pub add_dense-requires-clause-small : goal.add_dense-requires-clause-small
-add_dense-requires-clause-small g c = add_small _ _ c.next_place-place.new.free.items _ _ _ c.next_place-place.result
-    (pool g (goal.at.add_dense-requires-clause-small g c).After-next_place-place)
 
 pub add_dense-requires-clause-ready : goal.add_dense-requires-clause-ready
 add_dense-requires-clause-ready g c =

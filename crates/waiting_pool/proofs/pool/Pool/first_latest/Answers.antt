@@ -14,7 +14,7 @@ job_at-requires c =
     let modest = subst (λ (q : Pooled). AreModest q.tasks) (sym c.self.view_is) c.requires.modest in
     let it = latest_found _ _ _ _ (sym c.in_ok-item.was ∙ c.first.ensures) own modest c.self.invariant.0.latest in
     let here = within inside.slots.items c.in_ok-item.item.place (Some it.0) it.1 in
-    omega (arith, here, c.place.ensures.is)
+    omega (arith, here, c.place.ensures)
 
 pub returns-in_err-item : goal.returns-in_err-item
 returns-in_err-item c =
@@ -29,5 +29,5 @@ returns c =
     let own = subst (λ (q : Pooled). HaveOwnNumbers q.tasks) (sym c.self.view_is) c.requires.own in
     let modest = subst (λ (q : Pooled). AreModest q.tasks) (sym c.self.view_is) c.requires.modest in
     let it = latest_found _ _ _ _ (sym c.in_ok-item.was ∙ c.first.ensures) own modest c.self.invariant.0.latest in
-    some_same _ _ (sym c.job_at.ensures ∙ ap (slice_get inside.slots.items) c.place.ensures.is ∙ it.1) ∙ sym it.2
+    some_same _ _ (sym c.job_at.ensures ∙ ap (slice_get inside.slots.items) c.place.ensures ∙ it.1) ∙ sym it.2
     ∙ ap (λ (q : Pooled). first (starts_before q.version) q.tasks) c.self.view_is

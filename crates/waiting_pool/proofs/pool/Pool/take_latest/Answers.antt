@@ -12,7 +12,7 @@ take_at-requires-clause-some g c =
     let own = subst (λ (q : Pooled). HaveOwnNumbers q.tasks) (sym c.self.view_is) c.requires.own in
     let modest = subst (λ (q : Pooled). AreModest q.tasks) (sym c.self.view_is) c.requires.modest in
     let it = latest_found _ _ _ _ (sym c.in-Some.is ∙ c.first.ensures) own modest c.self.invariant.0.latest in
-    (it.0, ap (slice_get inside.slots.items) c.place.ensures.is ∙ it.1)
+    (it.0, ap (slice_get inside.slots.items) c.place.ensures ∙ it.1)
 
 pub take_at-requires-clause-pool : goal.take_at-requires-clause-pool
 take_at-requires-clause-pool g c = c.self.invariant.0
@@ -49,7 +49,7 @@ returns-in-Some-clause-rest g c t is =
     let it = latest_found _ _ _ _ (sym c.in-Some.is ∙ c.first.ensures) own modest c.self.invariant.0.latest in
     let same = sym it.2 ∙ ap (λ (q : Pooled). first (starts_before q.version) q.tasks) c.self.view_is ∙ is in
     subst (λ (q : Pooled). IsReordered q.tasks (t ∷ jobs_at c.take_at.new.slots.items)) c.self.view_is
-    (c.take_at.ensures.rest t (ap (slice_get inside.slots.items) c.place.ensures.is ∙ it.1 ∙ ap Some same))
+    (c.take_at.ensures.rest t (ap (slice_get inside.slots.items) c.place.ensures ∙ it.1 ∙ ap Some same))
 
 pub returns-in-Some-clause-none : goal.returns-in-Some-clause-none
 returns-in-Some-clause-none g c none =
