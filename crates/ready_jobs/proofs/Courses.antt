@@ -24,7 +24,8 @@ use Rattle.dover_model.proofs.runs.Honest.{count_jobs}
 use Rattle.dover_model.proofs.settled.Prefixes.{step_open}
 use Rattle.dover_model.proofs.rest.Resting.{tick_keeps, numbers_below}
 use Rattle.dover_model.proofs.settled.Settling.{at_barrier}
-use Rattle.dover_model.proofs.traces.ShortNumbers.{deadline_known, ticks_early}
+use Rattle.dover_model.proofs.traces.ShortNumbers.{ticks_early}
+use Rattle.dover_model.proofs.valid.Limiting.{deadline_known}
 use Rattle.dover_model.proofs.lists.Tests.{not_true, never, none_is_some}
 use Rattle.dover_model.proofs.finishes.Meeting.{finishing_valid}
 use Rattle.dover_model.proofs.finishes.Further.{over_open}
@@ -90,7 +91,8 @@ pub new_follows : (rules : Declaration) (room : ℕ) → IsRatio rules.ratio
     → Follows (new_course rules room) (record { rules = under rules []; jobs = [] }) (opening [])
 new_follows rules room ratio = record {
   valid = valid_from (record
-      { ratio = ratio; each = tt; in_order = tt; count = omega arith; total = omega arith; densities = tt });
+      { ratio = ratio; each = tt; due = omega arith; in_order = tt; count = omega arith; total = omega arith;
+      densities = tt });
   keeps = opening_keeps (record { rules = under rules []; jobs = [] });
   rules = refl;
   own = λ f m. absurd m;

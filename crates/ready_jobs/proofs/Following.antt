@@ -398,7 +398,7 @@ module _ (p : Parted) (roles : HaveRoles p) (J : Instance) (z : State) (part : P
         omega (arith, later, part.clock)
 
   -- the running job can have so many ticks more
-  pub had_fits : (n : ℕ) → n ≤ 1_000_000_000_000
+  pub had_fits : (n : ℕ) → n ≤ 10_000_000_000_000_000
       → Each (λ t. t.had + n < 18_446_744_073_709_551_616) (option_to_list p.running)
   had_fits n fits t m =
       let here : IsMember t z.tasks =
@@ -406,7 +406,7 @@ module _ (p : Parted) (roles : HaveRoles p) (J : Instance) (z : State) (part : P
       let job : IsJob t.job = part_job p J z part t
       (member_front (option_to_list p.running) (option_to_list p.fresh ++ (p.held ++ p.waiting)) t m) in
       let window : t.job.release + t.job.work ≤ t.job.deadline = (job_limits job).window in
-      let due : t.job.deadline ≤ 1_000_000_000_000 = (job_limits job).due in
+      let due : t.job.deadline ≤ 10_000_000_000_000_000 = (job_limits job).due in
       let had : t.had ≤ t.job.work = part.keeps.sound.at_most_work t here in
       omega (arith, fits)
 

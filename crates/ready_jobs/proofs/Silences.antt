@@ -146,7 +146,7 @@ module _ (k : Fraction) (p : Parted) (roles : HaveRoles p) (old : IsPart
   pub known_early : Each (λ t. p.clock < latest_start t) p.waiting
   known_early = ticks_early p roles old.0 old.1 old.2 next_ticks
 
-pub known_fits : (rules : Rules) (p : Parted) → HaveRoles p → IsPart rules p → (n : ℕ) → n ≤ 1_000_000_000_000
+pub known_fits : (rules : Rules) (p : Parted) → HaveRoles p → IsPart rules p → (n : ℕ) → n ≤ 10_000_000_000_000_000
     → Each (λ t. t.had + n < 18_446_744_073_709_551_616) (option_to_list p.running)
 known_fits rules p roles old n few = had_fits p roles old.0 old.1 old.2 n few
 

@@ -27,12 +27,12 @@ pub returns-clause-comes : goal.returns-clause-comes
 returns-clause-comes g c J z follows =
     let d = c.go_on-action.new.self in
     let at = c.clock.ensures ∙ ap (λ (d : Course). d.clock) c.self-2.view_is in
-    let reached : Reached d J z 1_000_000_000_000 (Prints c.in-Some.event) =
-    subst (Reached d J z 1_000_000_000_000)
+    let reached : Reached d J z 10_000_000_000_000_000 (Prints c.in-Some.event) =
+    subst (Reached d J z 10_000_000_000_000_000)
     (prints_event _ _ (ap (λ n. event_of (step_at n c.go_on-action.result)) (sym at) ∙ sym c.event_at.ensures
     ∙ c.in-Some.is))
     (c.go_on-action.ensures.reached J z follows) in
-    (reached.state, reached.follows, reached_next d J z 1_000_000_000_000 c.in-Some.event reached)
+    (reached.state, reached.follows, reached_next d J z 10_000_000_000_000_000 c.in-Some.event reached)
 
 pub go_on-action-requires-clause-some : goal.go_on-action-requires-clause-some
 go_on-action-requires-clause-some g c = c.requires.some
