@@ -102,7 +102,7 @@ module _ (s : ReadyServer) (J : Instance) (j : JobFacts) (rests : Rests s J (Mar
         known : j.release ≤ last_tick
         known = let job : IsJob j = of_last IsJob J.jobs j (valid_parts valid).each in
             let window : j.release + j.work ≤ j.deadline = (job_limits job).window in
-            let due : j.deadline ≤ 1_000_000_000_000 = (job_limits job).due in omega arith
+            let due : j.deadline ≤ 10_000_000_000_000_000 = (job_limits job).due in omega arith
 
   -- they are those of a run
   pub release_course : IsCourse (with_release s.ready j s.ready.room)
