@@ -6,7 +6,7 @@ use Rattle.std.proofs.lemmas.Bool.{false_from_ne_true}
 use Rattle.std.proofs.lemmas.List.Elements.{filter_map-append}
 use Rattle.ready_jobs.proofs.Courses.{follows_count}
 use Rattle.waiting_pool.proofs.Reordering.{as_many}
-use Rattle.dover_model.specs.Common.{is_ready, Instance, with_finishes, last_tick, most_items, IsMember, State, running}
+use Rattle.dover_model.specs.Common.{is_ready, Instance, with_finishes, last_tick_in, most_items, IsMember, State, running}
 use Rattle.dover_model.specs.Common.{is_running, is_over, Prints, after, printed_of, settled, settled_state, last_of}
 use Rattle.dover_model.specs.Common.{finish_now, FinishItem, EarlyFinish, Session, instance_of, admitted_jobs}
 use Rattle.dover_model.specs.Common.{with_item, job_of_item, finish_at, early_at, may_finish_early, ready_at, text_of}
@@ -282,10 +282,9 @@ module _ (w : Reading) (going : w.stage ≡ Going) (at number : ℕ) where
       ∙ none) ∙ (early_finish S f.at f.finish.number f (finish_parts may).right).0)
 
   -- above the last tick none is
-  pub not_known : last_tick < at → MayNotComplete w at number
+  pub not_known : last_tick_in w.kept.rules.version < at → MayNotComplete w at number
   not_known high ls S z goes f y may is_at is_number =
-      let known : f.at ≤ 1_000_000_000_000 = (finish_parts may).known in
-      let above : 1_000_000_000_000 < at = high in absurd (omega (arith, is_at))
+      absurd (omega (arith, (finish_parts may).known, ap last_tick_in (version_kept w ls S z z goes), high, is_at))
 
   -- where there are as many items as may be none is
   pub not_roomy : most_items w.kept.rules.version ≤ w.items → MayNotComplete w at number
@@ -319,7 +318,7 @@ some_of None is = never (sym is)
 some_of (Some x) is = (x, refl)
 
 module _ (w v : Reading) (at number : ℕ) (kept : v ≡ record w { course = v.course })
-    (early : may_finish_early w.kept.rules.version ≡ true) (known : at ≤ last_tick)
+    (early : may_finish_early w.kept.rules.version ≡ true) (known : at ≤ last_tick_in w.kept.rules.version)
     (few : w.items < most_items w.kept.rules.version)
     (waits : (ls : List (List ℕ)) (S : Session) (z y : State) → Goes w ls S z y → (x : State) × Waited v at ls S z x)
     (right : (ls : List (List ℕ)) (S : Session) (z y : State) → Waited v at ls S z y
@@ -335,7 +334,7 @@ module _ (w v : Reading) (at number : ℕ) (kept : v ≡ record w { course = v.c
         state = there.0;
         waited = there.1;
         version = ap may_finish_early (version_kept w ls S z y goes) ∙ early;
-        known = known;
+        known = omega (arith, known, ap last_tick_in (version_kept w ls S z y goes));
         room = room_left w ls S z y goes few;
         finish = some.0;
         right = some.1;

@@ -2,7 +2,7 @@
 use Rattle.std.proofs.Common.{◌≡◌, ℕ, ◌+◌, ◌≤◌, ◌<◌, List, [], ◌∷◌, ◌++◌, length, refl, sym, ap, ◌∙◌, subst, true}
 use Rattle.std.proofs.Common.{false, arith, Some, None, cond, ◌&&◌, nat_le, is_some, filter_map, append-nil}
 use Rattle.admission.specs.Kept as admission
-use Rattle.dover_model.specs.Common.{last_tick, most_items, JobFacts, job_of_numbers, Instance, State, printed_of}
+use Rattle.dover_model.specs.Common.{last_tick_in, most_items, JobFacts, job_of_numbers, Instance, State, printed_of}
 use Rattle.dover_model.specs.Common.{RefusedItem, Refused as RefusedAt, Session, instance_of, admitted_jobs, with_item}
 use Rattle.dover_model.specs.Common.{refuses_lines, is_full, refused_mark, may_finish_early, finish_at, refused_of_item}
 use Rattle.dover_model.specs.Common.{refused_text, named_item, begins_trace, Idles, WaitsUntil}
@@ -61,7 +61,7 @@ module _ (line : RefusedAt) (named : (S : Session) → named_item S (refused_tex
 
     -- it may come
     module _ (u v2 : Reading) (same : u ≡ v2) (kept : v2 ≡ record w { course = v2.course })
-        (known : line.at ≤ last_tick) (few : w.items < most_items w.kept.rules.version)
+        (known : line.at ≤ last_tick_in w.kept.rules.version) (few : w.items < most_items w.kept.rules.version)
         (may_line : (ls : List (List ℕ)) (S : Session) (z y x : State) → Goes w ls S z y
         → Waited v2 line.at ls S z x → parts.MayRefuse S line.at line.line)
         (waits : (ls : List (List ℕ)) (S : Session) (z y : State) → Goes w ls S z y → (x : State)
@@ -84,7 +84,7 @@ module _ (line : RefusedAt) (named : (S : Session) → named_item S (refused_tex
                 (subst (λ (t : Reading). t.items < most_items t.kept.rules.version) (sym unchanged) few);
             refused = (may_be_refused-agrees S u.floor line).1 (record {
               no_fall = waited.no_fall;
-              known = known;
+              known = omega (arith, known, ap last_tick_in (version_kept w ls S z y goes));
               line = may_line ls S z y x goes there.1;
             });
             waits = waited.waits;
@@ -141,13 +141,14 @@ module _ (at r c d v : ℕ) (cause : Refusal) (form : HasForm (Refused at r c d 
 
   -- the jobs and the limits don't refuse it so
   pub job_not : (w : Reading) → w.stage ≡ Going
-      → (refuses_lines w.kept.rules.version ≡ true → at ≤ last_tick → w.items < most_items w.kept.rules.version
+      → (refuses_lines w.kept.rules.version ≡ true → at ≤ last_tick_in w.kept.rules.version
+      → w.items < most_items w.kept.rules.version
       → (jobs : List JobFacts) → admission.StandsFor w.kept jobs
       → refusal_if_full w.kept.rules jobs at (job_of_numbers r c d v) ≡ Some cause → ⊥)
       → Took w w (refused_text job_line) false
   job_not w going none = not_refused job_line job_named w going w (λ ls reads. reads) (λ ls S z goes y may.
       none (ap refuses_lines (sym (version_kept w ls S z z goes)) ∙ (refused_parts may).line.version)
-      (refused_parts may).known
+      (omega (arith, (refused_parts may).known, ap last_tick_in (version_kept w ls S z z goes)))
       (room_kept w ls S z z goes may.room) (admitted_jobs S.items) goes.kept
       (ap (λ k. refusal_if_full k (admitted_jobs S.items) at (job_of_numbers r c d v)) goes.rules
       ∙ refused_if_full S at (job_of_numbers r c d v) cause (refused_parts may).line.cause
@@ -198,12 +199,12 @@ module _ (at tick number : ℕ) (form : HasForm (RefusedDone at tick number)) wh
 
   -- the version, the ticks and the limits don't allow it
   pub done_not : (w : Reading) → w.stage ≡ Going
-      → (may_finish_early w.kept.rules.version ≡ true → at ≤ last_tick → tick ≤ at
+      → (may_finish_early w.kept.rules.version ≡ true → at ≤ last_tick_in w.kept.rules.version → tick ≤ at
       → w.items < most_items w.kept.rules.version → ⊥)
       → Took w w (refused_text done_line) false
   done_not w going none = not_refused done_line done_named w going w (λ ls reads. reads) (λ ls S z goes y may.
       none (ap may_finish_early (sym (version_kept w ls S z z goes)) ∙ (refused_parts may).line.version)
-      (refused_parts may).known
+      (omega (arith, (refused_parts may).known, ap last_tick_in (version_kept w ls S z z goes)))
       (refused_parts may).line.no_later (room_kept w ls S z z goes may.room))
 
   -- whether the finish is right, where jobs may finish early

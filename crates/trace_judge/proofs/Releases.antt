@@ -132,7 +132,7 @@ module _ (r : Reading) (j : JobFacts) (room : ℕ) (ls : List (List ℕ)) (can :
         known = let admitted : Admitted S.rules (admitted_jobs S.items) j =
             not_refused S.rules (admitted_jobs S.items) j can.may.admitted in
             let window : j.release + j.work ≤ j.deadline = (job_limits admitted.job).window in
-            let due : j.deadline ≤ 1_000_000_000_000 = (job_limits admitted.job).due in
+            let due : j.deadline ≤ 10_000_000_000_000_000 = (job_limits admitted.job).due in
             omega arith
 
   -- the course with it

@@ -1,7 +1,7 @@
 -- Lines that continue no trace, and lines that continue one have a form.
 use Rattle.std.proofs.Common.{Option, ◌≡◌, ℕ, ◌+◌, ◌≤◌, ◌<◌, ◌⊎◌, inl, inr, List, [], ◌∷◌, ◌++◌, length, sym, ap, ◌∙◌}
 use Rattle.std.proofs.Common.{subst, true, false, cond, arith}
-use Rattle.dover_model.specs.Common.{IsRatio, Declaration, State, Session, RefusedLine, RefusedJob, RefusedDone}
+use Rattle.dover_model.specs.Common.{last_tick, IsRatio, Declaration, State, Session, RefusedLine, RefusedJob, RefusedDone}
 use Rattle.dover_model.specs.Common.{instance_of, admitted_jobs, IsDeclarable, Finish, settled_state, Keeps, header}
 use Rattle.dover_model.specs.Common.{text_of, refused_text, item_of, begins_trace, ends_with_end, PrintsNext}
 use Rattle.dover_model.specs.declared.events.Event.{Event}
@@ -11,7 +11,7 @@ use Rattle.dover_model.proofs.sessions.Growing.{Finishes, finishing_job}
 use Rattle.dover_model.proofs.settled.Barriers.{settled_at_barrier}
 use Rattle.dover_model.proofs.runs.Honest.{numbers_low, count_jobs}
 use Rattle.dover_model.proofs.valid.Admitting.{Admitted, not_refused}
-use Rattle.dover_model.proofs.valid.Limiting.{jobs_most}
+use Rattle.dover_model.proofs.valid.Limiting.{jobs_most, tick_most}
 use Rattle.dover_model.proofs.traces.TraceEnds.{trace_ends}
 use Rattle.dover_model.proofs.traces.WrongStays.{after_end_fails}
 use Rattle.line_text.specs.declared.traces.lines.TraceLine.{TraceLine}
@@ -66,7 +66,7 @@ release_form S floor z l it =
     let few : length (admitted_jobs S.items) < 4_000_000_000 =
     omega (arith, admitted.count, jobs_most S.rules.version) in
     let window : it.0.release + it.0.work ≤ it.0.deadline = (job_limits admitted.job).window in
-    let due : it.0.deadline ≤ 1_000_000_000_000 = (job_limits admitted.job).due in
+    let due : it.0.deadline ≤ 10_000_000_000_000_000 = (job_limits admitted.job).due in
     let modest : it.0.value ≤ 1_000_000_000 = (job_limits admitted.job).modest in (
       Step (Release (length (admitted_jobs S.items)) it.0),
       ((omega arith, (omega arith, (omega arith, (omega arith, (omega arith, tt))))), (omega arith, admitted.job)),
@@ -78,8 +78,8 @@ refused_form : (S : Session) (floor : ℕ) (z : State) (l : List ℕ) → IsRefu
     × HasForm x × (trace_text x ≡ l)
 refused_form S floor z l it =
     by_line it.0.line it.1 (refused_parts it.3).line where
-      known : it.0.at ≤ 1_000_000_000_000
-      known = (refused_parts it.3).known
+      known : it.0.at ≤ last_tick
+      known = omega (arith, (refused_parts it.3).known, tick_most S.rules.version)
 
       by_line : (line : RefusedLine) → l ≡ refused_text (record { at = it.0.at; line = line })
           → parts.MayRefuse S it.0.at line → (x : TraceLine) × HasForm x × (trace_text x ≡ l)
@@ -98,7 +98,7 @@ refused_form S floor z l it =
 completion_form : (ls : List (List ℕ)) (S : Session) (floor : ℕ) (z : State) (l : List ℕ) → Sees ls S floor z
     → IsCompletionNext S floor z l → (x : TraceLine) × HasForm x × (trace_text x ≡ l)
 completion_form ls S floor z l sees it =
-    let known : it.0.at ≤ 1_000_000_000_000 = (finish_parts it.3).known in
+    let known : it.0.at ≤ last_tick = omega (arith, (finish_parts it.3).known, tick_most S.rules.version) in
     let job : Finishes S it.0 = finishing_job S it.0 (finish_parts it.3).right in
     let number : it.0.finish.number ≡ job.job.number = ap (λ (g : Finish). g.number) job.is in
     let keeps : Keeps (instance_of S) (settled_state (instance_of S) it.0.at) =

@@ -1,7 +1,7 @@
 //! What the judge keeps of the lines of a trace: the course of its session, and what may come next in it.
 ghost use Rattle.std.specs.Prelude.{◌≡◌, ◌≤◌, ◌<◌, ◌+◌, ◌∷◌, ◌++◌, ℕ, List, [], Bool, true, false, IsTrue, IfOk};
 ghost use Rattle.std.specs.Prelude.{OnOk, OnErr, IsOk, Some, None, vec_len, vec_capacity, length, if◌then◌else◌};
-ghost use Rattle.dover_model.specs.Common.{last_tick, most_items, may_finish_early, refuses_lines};
+ghost use Rattle.dover_model.specs.Common.{last_tick, last_tick_in, most_items, may_finish_early, refuses_lines};
 ghost use Rattle.std.specs.Prelude.{◌&&◌, nat_le, is_some};
 
 use crate::says::{floor_after, is_end, is_full_cause, is_late_cause, is_same_cause, may_declare};
@@ -9,7 +9,6 @@ use crate::stage::TraceStage;
 use crate::verdict::{Expected, Verdict};
 use admission::Admission;
 use comparison_count::Comparisons;
-use dover_model::jobs::LAST_TICK;
 use dover_model::{Event, Job, Memory, PackedEvent, Ratio, Refusal, Version};
 use ready_jobs::{MOST_READY, Ready};
 use root_compare::long_bound;
@@ -314,6 +313,14 @@ impl TraceReader {
         self.course.count() >= MOST_READY
     }
 
+    // The tick is one that the version may name.
+    fn is_known(&self, at: u64) -> bool
+        ensures yes { result ≡ true → at ≤ last_tick_in self.now.kept.rules.version }
+        ensures no { result ≡ false → last_tick_in self.now.kept.rules.version < at }
+    {
+        at <= self.admission.version().last_tick()
+    }
+
     // There may be one item more.
     fn has_room(&self) -> bool
         ensures yes { result ≡ true → self.now.items < most_items self.now.kept.rules.version }
@@ -473,7 +480,7 @@ impl TraceReader {
         if !self.admission.version().may_finish_early() {
             return false;
         }
-        if at > LAST_TICK {
+        if !self.is_known(at) {
             return false;
         }
         if !self.has_room() {
@@ -520,11 +527,13 @@ impl TraceReader {
         value: u64,
         cause: Refusal,
     ) -> bool
-        ensures yes { result ≡ true → (refuses_lines self.now.kept.rules.version ≡ true) × (at ≤ last_tick)
+        ensures yes { result ≡ true → (refuses_lines self.now.kept.rules.version ≡ true)
+            × (at ≤ last_tick_in self.now.kept.rules.version)
             × (self.now.items < most_items self.now.kept.rules.version) }
         ensures refuses { result ≡ true → (jobs : List JobFacts) → StandsFor self.now.kept jobs →
             refusal_if_full self.now.kept.rules jobs at (job_of_numbers release work deadline value) ≡ Some cause }
-        ensures no { result ≡ false → refuses_lines self.now.kept.rules.version ≡ true → at ≤ last_tick
+        ensures no { result ≡ false → refuses_lines self.now.kept.rules.version ≡ true
+            → at ≤ last_tick_in self.now.kept.rules.version
             → self.now.items < most_items self.now.kept.rules.version
             → (jobs : List JobFacts) → StandsFor self.now.kept jobs →
             refusal_if_full self.now.kept.rules jobs at (job_of_numbers release work deadline value) ≡ Some cause
@@ -533,7 +542,7 @@ impl TraceReader {
         if !self.admission.version().refuses_lines() {
             return false;
         }
-        if at > LAST_TICK {
+        if !self.is_known(at) {
             return false;
         }
         if !self.has_room() {
@@ -600,15 +609,17 @@ impl TraceReader {
 
     // The refused done line may come next, as far as its ticks go.
     fn may_refuse_done(&self, at: u64, tick: u64) -> bool
-        ensures yes { result ≡ true → (may_finish_early self.now.kept.rules.version ≡ true) × (at ≤ last_tick)
+        ensures yes { result ≡ true → (may_finish_early self.now.kept.rules.version ≡ true)
+            × (at ≤ last_tick_in self.now.kept.rules.version)
             × (tick ≤ at) × (self.now.items < most_items self.now.kept.rules.version) }
-        ensures no { result ≡ false → may_finish_early self.now.kept.rules.version ≡ true → at ≤ last_tick →
+        ensures no { result ≡ false → may_finish_early self.now.kept.rules.version ≡ true →
+            at ≤ last_tick_in self.now.kept.rules.version →
             tick ≤ at → self.now.items < most_items self.now.kept.rules.version → ⊥ }
     {
         if !self.admission.version().may_finish_early() {
             return false;
         }
-        if at > LAST_TICK {
+        if !self.is_known(at) {
             return false;
         }
         if tick > at {

@@ -11,9 +11,9 @@ returns-then-not-may_finish_early-clause-no g c _ = not_early c.args.self.now c.
     (ap (λ (r : Reading). may_finish_early r.kept.rules.version) (sym c.self.view_is)
     ∙ ap may_finish_early (sym c.version.ensures) ∙ sym c.may_finish_early.ensures ∙ c.if-not-may_finish_early.true)
 
-pub returns-then-at-gt-LAST_TICK-clause-no : goal.returns-then-at-gt-LAST_TICK-clause-no
-returns-then-at-gt-LAST_TICK-clause-no g c _ = not_known c.args.self.now c.requires.going c.args.at c.args.number
-    (omega (arith, c.if-at-gt-LAST_TICK.true))
+pub returns-then-not-is_known-clause-no : goal.returns-then-not-is_known-clause-no
+returns-then-not-is_known-clause-no g c _ = not_known c.args.self.now c.requires.going c.args.at c.args.number
+    (c.is_known.ensures.no c.if-not-is_known.true)
 
 pub returns-then-not-has_room-clause-no : goal.returns-then-not-has_room-clause-no
 returns-then-not-has_room-clause-no g c _ = not_roomy c.args.self.now c.requires.going c.args.at c.args.number
@@ -34,7 +34,7 @@ finish-requires-clause-can g c = right_some c.args.self.now c.waits_until.new.se
     c.waits_until.ensures.kept
     (ap (λ (r : Reading). may_finish_early r.kept.rules.version) (sym c.self.view_is)
     ∙ ap may_finish_early (sym c.version.ensures) ∙ sym c.may_finish_early.ensures ∙ c.if-not-may_finish_early.false)
-    (omega (arith, c.if-at-gt-LAST_TICK.false))
+    (c.is_known.ensures.yes c.if-not-is_known.false)
     (c.has_room.ensures.yes c.if-not-has_room.false)
     (c.waits_until.ensures.yes c.if-not-waits_until.false)
     (λ ls S z y waited. sym c.if-not-is_right.false ∙ c.is_right.ensures ls S z y waited
@@ -46,7 +46,7 @@ returns-clause-yes g c _ = right_took c.args.self.now c.waits_until.new.self c.a
     c.waits_until.ensures.kept
     (ap (λ (r : Reading). may_finish_early r.kept.rules.version) (sym c.self.view_is)
     ∙ ap may_finish_early (sym c.version.ensures) ∙ sym c.may_finish_early.ensures ∙ c.if-not-may_finish_early.false)
-    (omega (arith, c.if-at-gt-LAST_TICK.false))
+    (c.is_known.ensures.yes c.if-not-is_known.false)
     (c.has_room.ensures.yes c.if-not-has_room.false)
     (c.waits_until.ensures.yes c.if-not-waits_until.false)
     (λ ls S z y waited. sym c.if-not-is_right.false ∙ c.is_right.ensures ls S z y waited
@@ -59,8 +59,8 @@ returns-clause-paid g c = λ start paid. c.finish.ensures.paid start _ (c.waits_
 pub returns-then-not-may_finish_early-clause-yes : goal.returns-then-not-may_finish_early-clause-yes
 returns-then-not-may_finish_early-clause-yes g c clash = never clash
 
-pub returns-then-at-gt-LAST_TICK-clause-yes : goal.returns-then-at-gt-LAST_TICK-clause-yes
-returns-then-at-gt-LAST_TICK-clause-yes g c clash = never clash
+pub returns-then-not-is_known-clause-yes : goal.returns-then-not-is_known-clause-yes
+returns-then-not-is_known-clause-yes g c clash = never clash
 
 pub returns-then-not-has_room-clause-yes : goal.returns-then-not-has_room-clause-yes
 returns-then-not-has_room-clause-yes g c clash = never clash
@@ -122,4 +122,8 @@ pub finish-requires-clause-going : goal.finish-requires-clause-going
 finish-requires-clause-going g c = ap (λ (r : Reading). r.stage) c.waits_until.ensures.kept ∙ c.requires.going
 
 pub waits_until-requires-clause-known : goal.waits_until-requires-clause-known
-waits_until-requires-clause-known g c = omega (arith, c.if-at-gt-LAST_TICK.false)
+waits_until-requires-clause-known g c = omega (
+  arith,
+  c.is_known.ensures.yes c.if-not-is_known.false,
+  tick_most c.self-2.kept.rules.version,
+)

@@ -16,9 +16,9 @@ use Rattle.trace_judge.proofs.reader.TraceReader.may_refuse.Goals.{After-is_full
 pub returns-then-not-has_room-clause-refuses : goal.returns-then-not-has_room-clause-refuses
 returns-then-not-has_room-clause-refuses c clash = never clash
 
-pub returns-then-at-gt-LAST_TICK-clause-no : goal.returns-then-at-gt-LAST_TICK-clause-no
-returns-then-at-gt-LAST_TICK-clause-no c _ _ known _ _ _ _ =
-    absurd (omega (arith, known, c.if-at-gt-LAST_TICK.true))
+pub returns-then-not-is_known-clause-no : goal.returns-then-not-is_known-clause-no
+returns-then-not-is_known-clause-no c _ _ known _ _ _ _ =
+    absurd (omega (arith, known, c.is_known.ensures.no c.if-not-is_known.true))
 
 pub returns-then-not-has_room-clause-no : goal.returns-then-not-has_room-clause-no
 returns-then-not-has_room-clause-no c _ _ _ room _ _ _ =
@@ -28,7 +28,7 @@ pub returns-in-Ok-clause-yes : goal.returns-in-Ok-clause-yes
 returns-in-Ok-clause-yes c _ = (
   ap (λ (r : Reading). refuses_lines r.kept.rules.version) (sym c.self.view_is)
       ∙ ap refuses_lines (sym c.version.ensures) ∙ sym c.refuses_lines.ensures ∙ c.if-not-refuses_lines.false,
-  omega (arith, c.if-at-gt-LAST_TICK.false),
+  c.is_known.ensures.yes c.if-not-is_known.false,
   c.has_room.ensures.yes c.if-not-has_room.false,
 )
 
@@ -36,7 +36,7 @@ pub returns-in-Err-clause-yes : goal.returns-in-Err-clause-yes
 returns-in-Err-clause-yes c _ = (
   ap (λ (r : Reading). refuses_lines r.kept.rules.version) (sym c.self.view_is)
       ∙ ap refuses_lines (sym c.version.ensures) ∙ sym c.refuses_lines.ensures ∙ c.if-not-refuses_lines.false,
-  omega (arith, c.if-at-gt-LAST_TICK.false),
+  c.is_known.ensures.yes c.if-not-is_known.false,
   c.has_room.ensures.yes c.if-not-has_room.false,
 )
 

@@ -84,4 +84,8 @@ returns-clause-kept g c = let same = c.self-2.view_is ∙ c.waits_until.ensures.
 }
 
 pub waits_until-requires-clause-known : goal.waits_until-requires-clause-known
-waits_until-requires-clause-known g c = (c.may_refuse.ensures.yes c.if-not-may_refuse.false).1
+waits_until-requires-clause-known g c = omega (
+  arith,
+  (c.may_refuse.ensures.yes c.if-not-may_refuse.false).1,
+  tick_most c.self.now.kept.rules.version,
+)

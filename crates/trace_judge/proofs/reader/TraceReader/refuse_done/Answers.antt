@@ -83,7 +83,11 @@ returns-clause-kept g c = let same = c.self-2.view_is ∙ c.waits_until.ensures.
 }
 
 pub waits_until-requires-clause-known : goal.waits_until-requires-clause-known
-waits_until-requires-clause-known g c = (c.may_refuse_done.ensures.yes c.if-not-may_refuse_done.false).1
+waits_until-requires-clause-known g c = omega (
+  arith,
+  (c.may_refuse_done.ensures.yes c.if-not-may_refuse_done.false).1,
+  tick_most c.self.now.kept.rules.version,
+)
 
 pub is_right_done-requires : goal.is_right_done-requires
 is_right_done-requires g c = record { low = (c.may_refuse_done.ensures.yes c.if-not-may_refuse_done.false).2 }
