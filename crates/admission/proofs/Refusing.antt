@@ -1,11 +1,11 @@
 -- Testing a job against the least dense and the densest one is testing it against all.
 use Rattle.std.proofs.Common.{◌≡◌, ◌≤◌, List, [], ◌∷◌, Bool, true, false, refl, sym, ◌∙◌, arith, ℕ, ◌+◌, ◌*◌, ◌<◌, ◌⊎◌}
-use Rattle.std.proofs.Common.{inl, inr, length, Some, None, not, nat_le, nat_lt, le-leb, lt-ltb, le-ltb}
+use Rattle.std.proofs.Common.{inl, inr, length, Some, None, not, ◌&&◌, nat_le, nat_lt, le-leb, lt-ltb, le-ltb}
 use Rattle.std.proofs.lemmas.Nat.{mul-le}
 use Rattle.std.specs.List.{list_all}
-use Rattle.std.proofs.lemmas.Bool.{lt-leb, false≢true}
-use Rattle.dover_model.specs.Common.{most_jobs, most_total, JobFacts, IsJob, is_job, Fraction, Declaration, total_value}
-use Rattle.dover_model.specs.Common.{is_within_ratio_both_ways, refusal_of}
+use Rattle.std.proofs.lemmas.Bool.{lt-leb, leb-true, false≢true, and_from, and_parts}
+use Rattle.dover_model.specs.Common.{last_tick_in, most_jobs, most_total, JobFacts, IsJob, is_job, Fraction}
+use Rattle.dover_model.specs.Common.{Declaration, total_value, is_within_ratio_both_ways, refusal_of}
 use Rattle.dover_model.specs.declared.events.Refusal.TheVariants.{BadJob, Count, Total, Ratio}
 use Rattle.dover_model.specs.Admission.{first_cause}
 use Rattle.dover_model.proofs.bound.Calculus.{cancel}
@@ -141,54 +141,72 @@ no_cause : (a b c d : Bool) → a ≡ true → b ≡ false → c ≡ false → d
     → first_cause ((not a, BadJob) ∷ (b, Count) ∷ (c, Total) ∷ (not d, Ratio) ∷ []) ≡ None
 no_cause a b c d one two three four = rw (one, two, three, four) refl
 
+-- the job is within the limits of one job and the version's last tick
+abbrev passes_alone : Declaration → JobFacts → Bool
+passes_alone rules j = is_job j && nat_le j.deadline (last_tick_in rules.version)
+
+-- a job within these limits passes their test
+alone : (rules : Declaration) (j : JobFacts) → IsJob j → j.deadline ≤ last_tick_in rules.version
+    → passes_alone rules j ≡ true
+alone rules j job due = and_from (is_job j) (nat_le j.deadline (last_tick_in rules.version)) job.passes
+    (le-leb _ _ due)
+
 -- a job within all limits that keeps the ratio with all isn't refused
 pub not_refused : (rules : Declaration) (jobs : List JobFacts) (j : JobFacts) → IsJob j
+    → j.deadline ≤ last_tick_in rules.version
     → length jobs < most_jobs rules.version → total_value jobs + j.value ≤ most_total rules.version
     → AllKeepRatio rules.ratio jobs j → refusal_of rules jobs j ≡ None
-not_refused rules jobs j job count total all =
+not_refused rules jobs j job due count total all =
     let k : Fraction = rules.ratio in
-    no_cause (is_job j) (nat_le (most_jobs rules.version) (length jobs))
+    no_cause (passes_alone rules j) (nat_le (most_jobs rules.version) (length jobs))
     (nat_lt (most_total rules.version) (total_value jobs + j.value))
-    (list_all (λ i. is_within_ratio_both_ways k i j) jobs) job.passes (lt-leb _ _ count)
+    (list_all (λ i. is_within_ratio_both_ways k i j) jobs) (alone rules j job due) (lt-leb _ _ count)
     (le-ltb _ _ total)
     ((each (λ i. is_within_ratio_both_ways k i j) (λ i. is_within_ratio_both_ways k i j ≡ true)
     (λ i. (λ h. h, λ h. h)) jobs).1 all)
 
--- a job out of its limits is refused as that
-pub bad_refused : (rules : Declaration) (jobs : List JobFacts) (j : JobFacts) → (IsJob j → ⊥)
-    → refusal_of rules jobs j ≡ Some BadJob
+-- a job out of these limits is refused as that
+pub bad_refused : (rules : Declaration) (jobs : List JobFacts) (j : JobFacts)
+    → (IsJob j → j.deadline ≤ last_tick_in rules.version → ⊥) → refusal_of rules jobs j ≡ Some BadJob
 bad_refused rules jobs j bad =
-    first_bad (is_job j) (nat_le (most_jobs rules.version) (length jobs))
+    first_bad (passes_alone rules j) (nat_le (most_jobs rules.version) (length jobs))
     (nat_lt (most_total rules.version) (total_value jobs + j.value))
     (list_all (λ i. is_within_ratio_both_ways rules.ratio i j) jobs)
-    (by_bool (is_job j ≡ false) (is_job j) (λ passes. absurd (bad (record { passes = passes }))) (λ fails. fails))
+    (by_bool (passes_alone rules j ≡ false) (passes_alone rules j) (λ passes.
+    let parts = and_parts (is_job j) (nat_le j.deadline (last_tick_in rules.version)) passes in
+    absurd (bad (record { passes = parts.0 }) (leb-true _ _ parts.1))) (λ fails. fails))
 
 -- a job behind as many as there may be is refused for their count
 pub count_refused : (rules : Declaration) (jobs : List JobFacts) (j : JobFacts) → IsJob j
+    → j.deadline ≤ last_tick_in rules.version
     → most_jobs rules.version ≤ length jobs → refusal_of rules jobs j ≡ Some Count
-count_refused rules jobs j job full =
-    first_count (is_job j) (nat_le (most_jobs rules.version) (length jobs))
+count_refused rules jobs j job due full =
+    first_count (passes_alone rules j) (nat_le (most_jobs rules.version) (length jobs))
     (nat_lt (most_total rules.version) (total_value jobs + j.value))
-    (list_all (λ i. is_within_ratio_both_ways rules.ratio i j) jobs) job.passes (le-leb _ _ full)
+    (list_all (λ i. is_within_ratio_both_ways rules.ratio i j) jobs) (alone rules j job due)
+    (le-leb _ _ full)
 
 -- a job that takes the values past their limit is refused for their sum
 pub total_refused : (rules : Declaration) (jobs : List JobFacts) (j : JobFacts) → IsJob j
+    → j.deadline ≤ last_tick_in rules.version
     → length jobs < most_jobs rules.version → most_total rules.version < total_value jobs + j.value
     → refusal_of rules jobs j ≡ Some Total
-total_refused rules jobs j job count over =
-    first_total (is_job j) (nat_le (most_jobs rules.version) (length jobs))
+total_refused rules jobs j job due count over =
+    first_total (passes_alone rules j) (nat_le (most_jobs rules.version) (length jobs))
     (nat_lt (most_total rules.version) (total_value jobs + j.value))
-    (list_all (λ i. is_within_ratio_both_ways rules.ratio i j) jobs) job.passes (lt-leb _ _ count) (lt-ltb _ _ over)
+    (list_all (λ i. is_within_ratio_both_ways rules.ratio i j) jobs) (alone rules j job due)
+    (lt-leb _ _ count) (lt-ltb _ _ over)
 
 -- a job with another that breaks the ratio is refused for it
 pub ratio_refused : (rules : Declaration) (jobs : List JobFacts) (j : JobFacts) (other : ℕ) → IsJob j
+    → j.deadline ≤ last_tick_in rules.version
     → length jobs < most_jobs rules.version → total_value jobs + j.value ≤ most_total rules.version
     → IsOther rules.ratio jobs j other → refusal_of rules jobs j ≡ Some Ratio
-ratio_refused rules jobs j other job count total it =
+ratio_refused rules jobs j other job due count total it =
     let k : Fraction = rules.ratio in
-    first_ratio (is_job j) (nat_le (most_jobs rules.version) (length jobs))
+    first_ratio (passes_alone rules j) (nat_le (most_jobs rules.version) (length jobs))
     (nat_lt (most_total rules.version) (total_value jobs + j.value))
-    (list_all (λ i. is_within_ratio_both_ways k i j) jobs) job.passes (lt-leb _ _ count)
+    (list_all (λ i. is_within_ratio_both_ways k i j) jobs) (alone rules j job due) (lt-leb _ _ count)
     (le-ltb _ _ total)
     (by_bool (list_all (λ i. is_within_ratio_both_ways k i j) jobs ≡ false)
     (list_all (λ i. is_within_ratio_both_ways k i j) jobs)

@@ -113,6 +113,9 @@ impl Admission {
         let Some(job) = Job::new(release, work, deadline, value) else {
             return Err(Refused::BadJob);
         };
+        if deadline > self.version.last_tick() {
+            return Err(Refused::BadJob);
+        }
         if self.count >= self.version.most_jobs() {
             return Err(Refused::Count);
         }

@@ -5,7 +5,7 @@ use Rattle.std.proofs.Common.{max, ◌||◌, fold, count_by, option_map, lt-ltb,
 use Rattle.std.specs.Option.{option_map_or}
 use Rattle.std.proofs.lemmas.List.Elements.{filter_map-append}
 use Rattle.std.proofs.lemmas.List.Sums.{sum_by-append}
-use Rattle.dover_model.specs.Common.{most_lines, last_tick, JobFacts, Session, Item, JobItem, RefusedItem, FinishItem}
+use Rattle.dover_model.specs.Common.{most_lines, last_tick_in, JobFacts, Session, Item, JobItem, RefusedItem, FinishItem}
 use Rattle.dover_model.specs.Common.{Refused, EarlyFinish, refused_at, refused_done_at, with_item, with_named, early_at}
 use Rattle.dover_model.specs.Common.{is_right, refusal_in, refused_mark, late_refusal, may_finish_early, admitted_jobs}
 use Rattle.dover_model.specs.Common.{job_of_item, refuses_lines, FeedLine, RatioLine, FactorLine, JobLine, TickLine}
@@ -104,8 +104,8 @@ module _ (lines : ℕ) (S : Session) (mark : ℕ) (standing : Standing) where
     by_right false = one (refused_done_at (max mark t) t m)
 
     by_version : (b : Bool) → BeginsWith S.items (with_line at (DoneLine t m) (cond b
-        (cond (nat_lt last_tick t) (Some Order) (cond (is_right S mark t m) None (Some NotDone))) (Some Line)))
-    by_version true = elim (nat_lt last_tick t) as (λ b. BeginsWith S.items
+        (cond (nat_lt (last_tick_in S.rules.version) t) (Some Order) (cond (is_right S mark t m) None (Some NotDone))) (Some Line)))
+    by_version true = elim (nat_lt (last_tick_in S.rules.version) t) as (λ b. BeginsWith S.items
         (with_line at (DoneLine t m) (cond b (Some Order) (cond (is_right S mark t m) None (Some NotDone))))) [
           | true ↦ none
           | false ↦ by_right (is_right S mark t m)
@@ -115,7 +115,7 @@ module _ (lines : ℕ) (S : Session) (mark : ℕ) (standing : Standing) where
   -- any line that has a form
   form_keeps : (line : FeedLine) → BeginsWith S.items (with_line at line (later_line_cause S mark line))
   form_keeps (JobLine j) = job_keeps j
-  form_keeps (TickLine t) = by_tests (nat_lt t mark || nat_lt last_tick t) where
+  form_keeps (TickLine t) = by_tests (nat_lt t mark || nat_lt (last_tick_in S.rules.version) t) where
     by_tests : (b : Bool) → BeginsWith S.items (with_line at (TickLine t) (cond b (Some Order) None))
     by_tests true = none
     by_tests false = none

@@ -2,7 +2,7 @@
 use Rattle.std.proofs.Common.{◌≡◌, ℕ, ◌≤◌, ◌<◌, max, ◌∷◌, [], refl, sym, ap, ◌∙◌, subst, cond, Option, Some, None, Ok}
 use Rattle.std.proofs.Common.{Bool, true, false, arith, nat_lt, nat_le, is_some, ◌&&◌, option_map, le-ltb, leb-true}
 use Rattle.std.proofs.lemmas.Bool.{lt-leb, and_parts}
-use Rattle.dover_model.specs.Common.{last_tick, AreShort, Session, FinishItem, EarlyFinish, RefusedDone}
+use Rattle.dover_model.specs.Common.{last_tick_in, AreShort, Session, FinishItem, EarlyFinish, RefusedDone}
 use Rattle.dover_model.specs.Common.{may_finish_early, is_right, early_at, with_named, with_item, refused_done_at}
 use Rattle.dover_model.specs.Common.{admitted_jobs, DoneLine, Account, Cause, NotDone, Order, Line, cause_of, with_line}
 use Rattle.dover_model.specs.Common.{with_good_line}
@@ -88,10 +88,10 @@ module _ (lines : ℕ) (S : Session) (mark t n : ℕ) where
 
   module _ (may : may_finish_early S.rules.version ≡ true) where
     -- its cause
-    done_cause : cause_of before (DoneLine t n) ≡ cond (nat_lt last_tick t) (Some Order) by_finish
-    done_cause = ap (λ b. cond b (cond (nat_lt last_tick t) (Some Order) by_finish) (Some Line)) may
+    done_cause : cause_of before (DoneLine t n) ≡ cond (nat_lt (last_tick_in S.rules.version) t) (Some Order) by_finish
+    done_cause = ap (λ b. cond b (cond (nat_lt (last_tick_in S.rules.version) t) (Some Order) by_finish) (Some Line)) may
 
-    module _ (known : t ≤ last_tick) where
+    module _ (known : t ≤ last_tick_in S.rules.version) where
       -- the account with the line
       after_line : (b : Bool) → with_line before (DoneLine t n) (cond b None (Some NotDone))
           ≡ cond b (with_good_line before (DoneLine t n)) (with_refused_done before t n)

@@ -4,7 +4,7 @@ use Rattle.std.proofs.Common.{true}
 use Rattle.std.proofs.Common.{[], ◌∷◌, nat_lt, option_map, le-ltb}
 use Rattle.dover_model.specs.declared.events.Version.{Version}
 use Rattle.dover_model.specs.declared.events.Version.TheVariants.{One, Two, Three, Four}
-use Rattle.dover_model.specs.Common.{last_tick, most_lines, JobFacts, IsJob, job_numbers, Fraction, IsRatio, fraction}
+use Rattle.dover_model.specs.Common.{last_tick, last_tick_in, most_lines, JobFacts, IsJob, job_numbers, Fraction, IsRatio, fraction}
 use Rattle.dover_model.specs.Common.{with_factor, Declaration, version_number, AreShort, Session, new_session}
 use Rattle.dover_model.specs.Common.{IsDeclarable, FeedLine, RatioLine, FactorLine, TickLine, HasNumerals, feed_line}
 use Rattle.dover_model.specs.Common.{feed_text, Account, Lines, Declared, Order, rules_with, declared_rules}
@@ -108,22 +108,23 @@ rules_account rules = by rules.ratio.p rules.ratio.q rules.ratio.factor rules.ve
 pub job_numerals : (j : JobFacts) → IsJob j → AreShort (job_numbers j)
 job_numerals j it =
     let window : j.release + j.work ≤ j.deadline = (job_limits it).window in
-    let due : j.deadline ≤ 1_000_000_000_000 = (job_limits it).due in
+    let due : j.deadline ≤ last_tick = (job_limits it).due in
     let modest : j.value ≤ 1_000_000_000 = (job_limits it).modest in
     (omega arith, (omega arith, (omega arith, (omega arith, tt))))
 
 -- ---- a tick
 
 -- a tick at the mark or after it moves the mark
-pub tick_account : (lines : ℕ) (S : Session) (mark tick : ℕ) → mark ≤ tick → tick ≤ last_tick
+pub tick_account : (lines : ℕ) (S : Session) (mark tick : ℕ) → mark ≤ tick
+    → tick ≤ last_tick_in S.rules.version
     → suc lines ≤ most_lines S.rules.version
     → next_line (open_account lines (Some S) mark) (feed_text (TickLine tick)) ≡ open_account (suc lines) (Some S) tick
 tick_account lines S mark tick ordered known few =
     let a : Account = open_account (suc lines) (Some S) mark in
     let read : feed_line (feed_text (TickLine tick)) ≡ Some (TickLine tick) =
-    feed_line-feed_text (TickLine tick) (omega arith, tt) in
+    feed_line-feed_text (TickLine tick) (omega (arith, known, tick_most S.rules.version), tt) in
     ap (λ b. cond b (with_fault a Lines) (after_form a (feed_line (feed_text (TickLine tick))))) (le-ltb _ _ few)
     ∙ ap (after_form a) read
-    ∙ ap (λ b. with_line a (TickLine tick) (cond (b || nat_lt last_tick tick) (Some Order) None))
+    ∙ ap (λ b. with_line a (TickLine tick) (cond (b || nat_lt (last_tick_in S.rules.version) tick) (Some Order) None))
     (le-ltb tick mark ordered)
-    ∙ ap (λ b. with_line a (TickLine tick) (cond b (Some Order) None)) (le-ltb last_tick tick known)
+    ∙ ap (λ b. with_line a (TickLine tick) (cond b (Some Order) None)) (le-ltb (last_tick_in S.rules.version) tick known)

@@ -2,9 +2,10 @@
 use Rattle.std.proofs.Common.{◌≡◌, ℕ, zero, suc, ◌+◌, ◌≤◌, List, ◌++◌, replicate, refl, sym, ap, ◌∙◌, subst, cond, true}
 use Rattle.std.proofs.Common.{false, Option, Some, None, arith, add-zero, ◌||◌, fold, nat_lt, IsSome, le-ltb}
 use Rattle.std.proofs.lemmas.List.Sums.{fold-append}
-use Rattle.dover_model.specs.Common.{most_lines, last_tick, Session, TickLine, feed_line, feed_text, Account, Open}
+use Rattle.dover_model.specs.Common.{most_lines, last_tick_in, Session, TickLine, feed_line, feed_text, Account, Open}
 use Rattle.dover_model.specs.Common.{Order, Lines, with_fault, with_line, next_line, no_lines, account_of_lines}
 use Rattle.dover_model.proofs.texts.FeedLines.{feed_line-feed_text}
+use Rattle.dover_model.proofs.valid.Limiting.{tick_most}
 use Rattle.dover_model.proofs.sessions.Accounts.{HoldsBy, HoldsOpen, Holds, IsKept, lines_goes}
 use Rattle.event_feed.specs.declared.intake.Standing.TheVariants as standings
 use Rattle.event_feed.specs.declared.kept_session.KeptSession.{KeptSession}
@@ -17,7 +18,7 @@ use Rattle.event_feed.proofs.Taking.{goes_on, kept_most}
 -- the mark of an open account with a session is a tick
 pub mark_known : (ls : List (List ℕ)) (S : Session) → (account_of_lines ls).standing ≡ Open
     → (account_of_lines ls).session ≡ Some S
-    → (account_of_lines ls).mark ≤ last_tick
+    → (account_of_lines ls).mark ≤ last_tick_in S.rules.version
 mark_known ls S opened session =
     let a : Account = account_of_lines ls in
     let kept : IsKept a = (lines_goes ls no_lines zero_mark).0 in
@@ -29,23 +30,24 @@ mark_known ls S opened session =
       zero_mark = refl
 
 -- its cause: there is none
-no_cause : (mark : ℕ) → mark ≤ last_tick → nat_lt mark mark || nat_lt last_tick mark ≡ false
-no_cause mark known = ap (λ b. b || nat_lt last_tick mark) (le-ltb mark mark (omega arith))
-    ∙ le-ltb last_tick mark known
+no_cause : (mark last : ℕ) → mark ≤ last → nat_lt mark mark || nat_lt last mark ≡ false
+no_cause mark last known = ap (λ b. b || nat_lt last mark) (le-ltb mark mark (omega arith)) ∙ le-ltb last mark known
 
 -- one such line
-one_tick : (lines : ℕ) (S : Session) (mark : ℕ) → mark ≤ last_tick → suc lines ≤ most_lines S.rules.version
+one_tick : (lines : ℕ) (S : Session) (mark : ℕ) → mark ≤ last_tick_in S.rules.version
+    → suc lines ≤ most_lines S.rules.version
     → next_line (open_account lines (Some S) mark) (feed_text (TickLine mark)) ≡ open_account (suc lines) (Some S) mark
 one_tick lines S mark known few =
     let a : Account = open_account (suc lines) (Some S) mark in
     let read : feed_line (feed_text (TickLine mark)) ≡ Some (TickLine mark) =
-    feed_line-feed_text (TickLine mark) (omega arith, tt) in
+    feed_line-feed_text (TickLine mark) (omega (arith, known, tick_most S.rules.version), tt) in
     ap (λ b. cond b (with_fault a Lines) (after_form a (feed_line (feed_text (TickLine mark))))) (le-ltb _ _ few)
     ∙ ap (after_form a) read
-    ∙ ap (λ b. with_line a (TickLine mark) (cond b (Some Order) None)) (no_cause mark known)
+    ∙ ap (λ b. with_line a (TickLine mark) (cond b (Some Order) None)) (no_cause mark (last_tick_in S.rules.version) known)
 
 -- so many
-pub ticks : (n lines : ℕ) (S : Session) (mark : ℕ) → mark ≤ last_tick → lines + n ≤ most_lines S.rules.version
+pub ticks : (n lines : ℕ) (S : Session) (mark : ℕ) → mark ≤ last_tick_in S.rules.version
+    → lines + n ≤ most_lines S.rules.version
     → fold next_line (open_account lines (Some S) mark) (replicate n (feed_text (TickLine mark))) ≡ open_account
     (lines + n) (Some S) mark
 ticks zero lines S mark known few = ap (λ m. open_account m (Some S) mark) (sym (add-zero lines))

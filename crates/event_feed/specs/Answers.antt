@@ -1,7 +1,7 @@
 -- What the answers to the lines of a feed say of its account.
 use Rattle.std.specs.Prelude.{◌≡◌, ◌≢◌, ℕ, suc, ◌≤◌, ◌⊎◌, List, [], ◌∷◌, length, true, if◌then◌else◌, Option, Some}
 use Rattle.std.specs.Prelude.{None, Result, Ok, Err}
-use Rattle.dover_model.specs.Common.{last_tick, AreShort, JobFacts, job_numbers, job_of_numbers, Fraction, refusal_of}
+use Rattle.dover_model.specs.Common.{last_tick_in, AreShort, JobFacts, job_numbers, job_of_numbers, Fraction, refusal_of}
 use Rattle.dover_model.specs.Common.{Session, JobItem, refused_at, with_item, new_session, admitted_jobs, refuses_lines}
 use Rattle.dover_model.specs.Common.{refusal_at, may_finish_early, is_right, Item, instance_of, is_full, refused_mark}
 use Rattle.dover_model.specs.Common.{FeedLine, JobLine, DoneLine, feed_line, Account, Open, Ended, Faulty, rules_with}
@@ -56,7 +56,7 @@ pub record MovesMark (tick : ℕ) (a after : Account) : Type 0 where
   pub before_is : a.session ≡ Some session
   pub after_is : after ≡ record a { mark = tick }
   pub no_fall : a.mark ≤ tick
-  pub known : tick ≤ last_tick
+  pub known : tick ≤ last_tick_in session.rules.version
 
 -- the feed is ended
 pub record EndsFeed (a after : Account) : Type 0 where
@@ -87,7 +87,7 @@ pub record AddsDone (tick number : ℕ) (a after : Account) : Type 0 where
   pub version : may_finish_early session.rules.version ≡ true
   pub after_is : after ≡ with_done session tick number a
   pub numerals : AreShort (number ∷ [])
-  pub known : tick ≤ last_tick
+  pub known : tick ≤ last_tick_in session.rules.version
 
 -- what the answer says
 abbrev pub IsFed : Account → Account → Fed → Type 0

@@ -11,8 +11,8 @@ pub enum Cause {
     Line,
     /// The first line doesn't declare the ratio, or does so out of the limits, or a later line declares it again.
     Declared,
-    /// A release or the tick of a tick line is below the mark, or a tick is above 10^12. In version Three a release
-    /// below the mark is no fault.
+    /// A release or the tick of a tick line is below the mark, or a tick is above the last one, which is 10^12 and in
+    /// versions Three and Four 10^16. In those a release below the mark is no fault.
     Order,
     /// A limit of one job is broken.
     BadJob,

@@ -11,7 +11,6 @@ ghost use Rattle.event_feed.specs.Reading.{Refuses, Takes};
 use crate::faults::Cause;
 use crate::fed::Fed;
 use admission::{Admission, Refused};
-use dover_model::jobs::LAST_TICK;
 use dover_model::{Job, Ratio, Refusal, Version};
 use line_text::feeds::FeedLine;
 
@@ -127,7 +126,7 @@ impl KeptSession {
         ensures { (lines : ℕ) (S : Session) (mark : ℕ) → IsKeptOf self.old S mark
             → Takes (TickLine at) lines S mark self.new result }
     {
-        if at < self.mark || at > LAST_TICK {
+        if at < self.mark || at > self.version().last_tick() {
             return Err(Cause::Order);
         }
         self.mark = at;
@@ -140,7 +139,7 @@ impl KeptSession {
         ensures { (lines : ℕ) (S : Session) (mark : ℕ) → IsKeptOf self.old S mark
             → may_finish_early S.rules.version ≡ true → Takes (DoneLine at number) lines S mark self.new result }
     {
-        if at > LAST_TICK {
+        if at > self.version().last_tick() {
             return Err(Cause::Order);
         }
         self.mark = self.mark.max(at);
