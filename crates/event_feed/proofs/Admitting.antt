@@ -8,8 +8,8 @@ use Rattle.std.proofs.lemmas.List.Sums.{sum_by-append}
 use Rattle.dover_model.specs.Common.{most_lines, last_tick_in, JobFacts, Session, Item, JobItem, RefusedItem, FinishItem}
 use Rattle.dover_model.specs.Common.{Refused, EarlyFinish, refused_at, refused_done_at, with_item, with_named, early_at}
 use Rattle.dover_model.specs.Common.{is_right, refusal_in, refused_mark, late_refusal, may_finish_early, admitted_jobs}
-use Rattle.dover_model.specs.Common.{job_of_item, refuses_lines, FeedLine, RatioLine, FactorLine, JobLine, TickLine}
-use Rattle.dover_model.specs.Common.{DoneLine, EndLine, feed_line, Account, Standing, Lines, Line, is_open, next_line}
+use Rattle.dover_model.specs.Common.{job_of_item, refuses_lines, FeedLine, JobLine, TickLine}
+use Rattle.dover_model.specs.Common.{DoneLine, feed_line, Account, Standing, Lines, Line, is_open, next_line}
 use Rattle.dover_model.specs.Common.{read_line, with_line, with_fault, with_refused_at, later_line_cause, late_cause}
 use Rattle.dover_model.specs.Common.{Order, NotAdmitted, NotDone, account}
 use Rattle.dover_model.specs.declared.events.Refusal.{Refusal}

@@ -25,6 +25,7 @@ use Rattle.dover_model.proofs.lists.Members.{found, some_same, all_append, by_bo
 use Rattle.dover_model.proofs.rest.Resting.{numbers_below}
 use Rattle.dover_model.proofs.finishes.RightFinishes.{none_other}
 use Rattle.dover_model.proofs.valid.Valid.{all_from}
+use Rattle.dover_model.proofs.valid.Limiting.{tick_most}
 use Rattle.event_feed.proofs.Admitting.{job_more, refused_more, admitted_by}
 use Rattle.dover_model.proofs.sessions.Fullness.{few_ready, full_many}
 use Rattle.event_feed.proofs.DoneLines.{session_done, done_session, done_jobs, done_mark}
@@ -329,7 +330,7 @@ module _ (a b : Account) (declared : Option (Fraction × Version)) (jobs : List 
           stands : StandsAmong jobs d
           stands = record {
             behind = omega arith;
-            known = it.known;
+            known = omega (arith, it.known, tick_most it.session.rules.version);
             before = subst (AllByRecursion (λ j. j.release ≤ tick)) (ap (λ (J : Instance). J.jobs) (sym same)
                 ∙ sym (take-length jobs)) (all_from (λ j. j.release ≤ a.mark) (λ j. j.release ≤ tick)
                 (admitted_jobs it.session.items) (λ j low. omega (arith, low, up)) holds.reads.known);

@@ -9,7 +9,7 @@ use Rattle.dover_model.specs.Common.{most_jobs, JobFacts, Session, Item, JobItem
 use Rattle.dover_model.specs.Common.{refused_done_at, with_item, with_named, early_at, is_right, is_full, instance_of}
 use Rattle.dover_model.specs.Common.{is_same_refusal, Account, account, account_of_lines, is_open, rest_of, is_too_long}
 use Rattle.dover_model.specs.declared.events.Refusal.{Refusal}
-use Rattle.dover_model.specs.declared.events.Refusal.TheVariants.{BadJob, Count, Total, Ratio, Late, Full}
+use Rattle.dover_model.specs.declared.events.Refusal.TheVariants.{Full}
 use Rattle.dover_model.specs.declared.events.Version.TheVariants.{Two}
 use Rattle.dover_model.proofs.lists.Tests.{not_true}
 use Rattle.dover_model.proofs.lists.Members.{by_bool}

@@ -13,6 +13,7 @@ use Rattle.dover_model.specs.Session.{takes_factors}
 use Rattle.dover_model.specs.declared.factors.Factor.{Factor}
 use Rattle.dover_model.proofs.texts.FeedLines.{feed_line-feed_text}
 use Rattle.dover_model.proofs.valid.JobLimits.{ratio_limits, job_limits}
+use Rattle.dover_model.proofs.valid.Limiting.{tick_most}
 use Rattle.dover_model.proofs.texts.NoFeeds.{header_short}
 use Rattle.dover_model.proofs.lists.Tests.{never}
 use Rattle.event_feed.specs.Reading.{declared_number, rules_line, open_account}
