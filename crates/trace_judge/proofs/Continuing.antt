@@ -683,7 +683,8 @@ sees_header rules ratio declared = (
   valid_new = session_from (record {
     declared = declared;
     jobs = valid_from (record
-        { ratio = ratio; each = tt; in_order = tt; count = omega arith; total = omega arith; densities = tt });
+        { ratio = ratio; each = tt;
+      due = omega arith; in_order = tt; count = omega arith; total = omega arith; densities = tt });
     count = omega arith;
     items = tt;
   })

@@ -4,6 +4,7 @@ use Rattle.dover_model.proofs.lists.Tests.{never}
 use Rattle.trace_judge.specs.Reads.{Reading}
 use Rattle.trace_judge.proofs.Readings.{unchanged_on}
 use Rattle.trace_judge.proofs.Completing.{not_early, not_known, not_roomy, not_there, not_right, right_some, right_took}
+use Rattle.dover_model.proofs.valid.Limiting.{tick_most}
 use Rattle.trace_judge.proofs.reader.TraceReader.finish_early.Goals as goal
 
 pub returns-then-not-may_finish_early-clause-no : goal.returns-then-not-may_finish_early-clause-no
@@ -125,5 +126,5 @@ pub waits_until-requires-clause-known : goal.waits_until-requires-clause-known
 waits_until-requires-clause-known g c = omega (
   arith,
   c.is_known.ensures.yes c.if-not-is_known.false,
-  tick_most c.self-2.kept.rules.version,
+  tick_most c.args.self.now.kept.rules.version,
 )

@@ -3,6 +3,7 @@ use Rattle.trace_judge.specs.Reads.{IsPaid, Reading}
 use Rattle.trace_judge.proofs.Readings.{few_items, unchanged_on}
 use Rattle.trace_judge.proofs.Refusals.{not_waited, refused_few, refused_took, refused_reader, job_line, job_named}
 use Rattle.trace_judge.proofs.Refusals.{job_not, job_may, job_roomy}
+use Rattle.dover_model.proofs.valid.Limiting.{tick_most}
 use Rattle.trace_judge.proofs.reader.TraceReader.refuse.Goals as goal
 
 pub returns-then-not-may_refuse-clause-took : goal.returns-then-not-may_refuse-clause-took
@@ -87,5 +88,5 @@ pub waits_until-requires-clause-known : goal.waits_until-requires-clause-known
 waits_until-requires-clause-known g c = omega (
   arith,
   (c.may_refuse.ensures.yes c.if-not-may_refuse.false).1,
-  tick_most c.self.now.kept.rules.version,
+  tick_most c.args.self.now.kept.rules.version,
 )

@@ -3,6 +3,7 @@ use Rattle.trace_judge.specs.Reads.{IsPaid, Reading}
 use Rattle.trace_judge.proofs.Readings.{few_items, unchanged_on}
 use Rattle.trace_judge.proofs.Refusals.{not_waited, refused_few, refused_took, refused_reader, done_line, done_named}
 use Rattle.trace_judge.proofs.Refusals.{done_not, done_may, done_right}
+use Rattle.dover_model.proofs.valid.Limiting.{tick_most}
 use Rattle.trace_judge.proofs.reader.TraceReader.refuse_done.Goals as goal
 
 pub returns-then-not-may_refuse_done-clause-took : goal.returns-then-not-may_refuse_done-clause-took
@@ -86,7 +87,7 @@ pub waits_until-requires-clause-known : goal.waits_until-requires-clause-known
 waits_until-requires-clause-known g c = omega (
   arith,
   (c.may_refuse_done.ensures.yes c.if-not-may_refuse_done.false).1,
-  tick_most c.self.now.kept.rules.version,
+  tick_most c.args.self.now.kept.rules.version,
 )
 
 pub is_right_done-requires : goal.is_right_done-requires
