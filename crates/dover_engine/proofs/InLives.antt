@@ -253,7 +253,7 @@ module _ (rules : Rules) where
     lives_complete : (ls : List (ℕ × Turn)) → AreLives ls
         → completed_value (turn_under rules (anew (and_last ls))) ≡ completed_anew rules (and_last ls)
     lives_complete ls all = let ends = ends_with_all rules (and_last ls) in
-        ap (last_value 0) (lives_print tick life it ls all ∙ ends.1)
+        ap (last_value 0) (lives_print ls all ∙ ends.1)
         ∙ value_last 0 (completed_anew rules (and_last ls)) ends.0
 
     -- a bound of each life is one of all
@@ -295,5 +295,5 @@ module _ (rules : Rules) where
         subst (IsWithin rules.ratio (worth (observed (turn_under rules (anew (and_last ls)))) s))
         (sym (lives_complete ls all))
         (subst (λ js. IsWithin rules.ratio (worth (of_rules rules js) s) (completed_anew rules (and_last ls)))
-        (sym (lives_observe tick life it ls all))
+        (sym (lives_observe ls all))
         (each_within seen (λ at turn t a. life_observed at turn t a) ls s all))

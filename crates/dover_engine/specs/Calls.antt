@@ -5,7 +5,7 @@ use Rattle.dover_model.specs.declared.events.Version.{Version}
 use Rattle.dover_model.specs.declared.events.Event.{Event}
 use Rattle.dover_model.specs.declared.events.Refusal.{Refusal}
 use Rattle.dover_model.specs.declared.events.Refusal.TheVariants as plain
-use Rattle.dover_model.specs.Common.{JobFacts, Fraction, most_ready, last_tick, Instance, declared_by, with_jobs}
+use Rattle.dover_model.specs.Common.{JobFacts, Fraction, most_ready, last_tick_in, Instance, declared_by, with_jobs}
 use Rattle.dover_model.specs.Common.{jobs_under, with_finishes, refusal_of, Finish, runner_of, may_finish_early}
 use Rattle.dover_model.specs.Common.{last_of, printed, MayFollow, is_ready_after, is_end_given, no_jobs}
 use Rattle.dover_model.specs.declared.events.Event.TheVariants.{Complete}
@@ -135,10 +135,10 @@ IsNotDone v at number not_done.Behind = MayBeDone v at × HasProcessor v number
 -- ---- steps
 
 -- why no step is taken to a mark
-abbrev pub mark_refusal : Horizon → ℕ → Option NotStepped
-mark_refusal End mark = Some Finished
-mark_refusal (Mark last) mark =
-    if nat_lt mark last then Some Falls else if nat_lt last_tick mark then Some Late else None
+abbrev pub mark_refusal : Version → Horizon → ℕ → Option NotStepped
+mark_refusal version End mark = Some Finished
+mark_refusal version (Mark last) mark =
+    if nat_lt mark last then Some Falls else if nat_lt (last_tick_in version) mark then Some Late else None
 
 -- at rest all jobs are forgotten
 abbrev pub BeginsAnew : Life → Type 0

@@ -57,7 +57,8 @@ pub enum NotStepped {
     Finished,
     /// The mark is below the last one.
     Falls,
-    /// The mark is above the last tick, 1,000,000,000,000.
+    /// The mark is above the last tick of the version: 1,000,000,000,000, from version Three on
+    /// 10,000,000,000,000,000.
     Late,
 }
 

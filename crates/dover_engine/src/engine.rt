@@ -19,7 +19,6 @@ use crate::decision::{Decision, decision_in};
 use crate::earned::Earned;
 use admission::Admission;
 use comparison_count::Comparisons;
-use dover_model::jobs::LAST_TICK;
 use dover_model::{Event, Horizon, Ratio, Version};
 use ready_jobs::MOST_READY;
 use ready_server::ReadyServer;
@@ -64,13 +63,13 @@ fn is_ready_after(to: Horizon, event: &Option<Event>) -> bool
 }
 
 // Why no step is taken to the mark.
-fn mark_refusal(last: Horizon, mark: u64) -> Option<NotStepped>
-    ensures { result ≡ mark_refusal last mark }
+fn mark_refusal(version: Version, last: Horizon, mark: u64) -> Option<NotStepped>
+    ensures { result ≡ mark_refusal version last mark }
 {
     match last {
         Horizon::End => Some(NotStepped::Finished),
         Horizon::Mark(last) if mark < last => Some(NotStepped::Falls),
-        Horizon::Mark(_) if mark > LAST_TICK => Some(NotStepped::Late),
+        Horizon::Mark(_) if mark > version.last_tick() => Some(NotStepped::Late),
         Horizon::Mark(_) => None,
     }
 }
@@ -311,7 +310,8 @@ impl Engine {
         mark: u64,
         comparisons: &mut Comparisons<L>,
     ) -> Result<Option<Decision>, NotStepped>
-        ensures refusal { IfErr result (λ cause. mark_refusal self.old.last mark ≡ Some cause) }
+        ensures refusal { IfErr result
+            (λ cause. mark_refusal self.old.admission.rules.version self.old.last mark ≡ Some cause) }
         ensures kept { OnErr result (self.new ≡ self.old) }
         ensures free { OnErr result (comparisons.new ≡ comparisons.old) }
         ensures may { OnOk result (MayFollow self.old.last (Mark mark)) }
@@ -319,7 +319,7 @@ impl Engine {
         ensures paid { (start : ℕ) → HasPaid self.old start comparisons.old → HasPaid self.new start comparisons.new }
         ensures once { IfOk result (λ answer. CostsOnce self.old (event_in answer) comparisons.old comparisons.new) }
     {
-        if let Some(cause) = mark_refusal(self.last, mark) {
+        if let Some(cause) = mark_refusal(self.admission.version(), self.last, mark) {
             return Err(cause);
         }
         Ok(self.decide(Horizon::Mark(mark), comparisons))
