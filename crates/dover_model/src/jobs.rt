@@ -1,9 +1,9 @@
 //! A job with a firm deadline.
 ghost use Rattle.std.specs.Prelude.{◌≡◌, ◌≤◌, length};
 ghost use Rattle.dover_model.specs.declared.events.Version.TheVariants.{Two};
-ghost use Rattle.dover_model.specs.Instance.{total_value};
+ghost use Rattle.dover_model.specs.Instance.{last_deadline, total_value};
 ghost use Rattle.dover_model.specs.JobFacts.{IsJob};
-ghost use Rattle.dover_model.specs.Limits.{most_jobs};
+ghost use Rattle.dover_model.specs.Limits.{last_tick, most_jobs};
 ghost use Rattle.dover_model.specs.Sound.{Each};
 
 use std::marker::Model;
@@ -117,4 +117,19 @@ pub fn total_value(jobs: &[Job]) -> u64
         value += job.value();
     }
     value
+}
+
+/// The greatest deadline of these jobs, 0 where there is none.
+pub fn last_deadline(jobs: &[Job]) -> u64
+    ensures is { result ≡ last_deadline jobs.now }
+    ensures known { result ≤ last_tick }
+{
+    let mut last = 0;
+    for job in jobs {
+        let due = job.deadline();
+        if last <= due {
+            last = due;
+        }
+    }
+    last
 }
