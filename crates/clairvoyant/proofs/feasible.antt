@@ -1,3 +1,4 @@
+pub mod Dues
 pub mod Overfull
 pub mod Stretches
 pub mod EarliestFirst

@@ -166,8 +166,7 @@ module _ (jobs : List JobFacts) (clock released : ℕ) (kept : List Kept) (piece
     soon = omega (
       arith,
       s.soon,
-      (job_limits is_job).window,
-      (job_limits is_job).due,
+      (job_limits is_job).small,
       sum_by-cons (λ (e : Kept). e.1) ((j.deadline, released), j.work) kept,
     );
   } where

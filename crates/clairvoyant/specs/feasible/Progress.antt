@@ -4,7 +4,7 @@ use Rattle.std.specs.Prelude.{Bool, Option, None, Some, slice_get, nat_lt, min, 
 use Rattle.std.specs.List.{enumerate_from}
 use Rattle.dover_model.specs.Common.{last_tick, JobFacts, IsJob, is_served, left, IsMember, Each, IsNumberedFrom}
 use Rattle.dover_model.specs.Common.{jobs_of, IsOverfull, is_inside, work_inside, stretches, edf, edf_from}
-use Rattle.dover_model.specs.Common.{last_release}
+use Rattle.dover_model.specs.Common.{last_release, most_work}
 use Rattle.dover_model.specs.declared.events.Task.{Task}
 use Rattle.dover_model.specs.declared.pieces.Piece.{Piece}
 use Rattle.clairvoyant.specs.declared.feasible.simulation.Simulation.{Simulation}
@@ -87,7 +87,7 @@ pub record Stands (jobs : List JobFacts) (clock released : ℕ) (kept : List Kep
   pub served : AreServed late so_far tasks
   pub shown : IsShown jobs late
   pub few : released ≤ length jobs
-  pub soon : clock + sum_by (λ e. e.1) kept ≤ last_tick * (released + 1)
+  pub soon : clock + sum_by (λ e. e.1) kept ≤ last_tick + most_work * released
 
 -- the same of a simulation
 abbrev pub StandsAt : List JobFacts → Simulation → (from : ℕ) → Type 0

@@ -1,7 +1,8 @@
 //! Sets of jobs that one schedule serves.
 ghost use Rattle.std.specs.Prelude.{◌≡◌, ◌<◌, ◌≤◌, ◌+◌, ◌*◌, ◌++◌, ◌∷◌, [], List, ℕ, length, slice_get, Some, IfOk};
 ghost use Rattle.std.specs.Prelude.{MatchOption};
-ghost use Rattle.dover_model.specs.Common.{IsInOrder, IsJob, Each};
+ghost use Rattle.dover_model.specs.declared.events.Version.TheVariants.{Two};
+ghost use Rattle.dover_model.specs.Common.{IsInOrder, IsJob, Each, last_deadline, last_tick_in};
 ghost use Rattle.clairvoyant.specs.best.BestSet.{IsGood};
 ghost use Rattle.clairvoyant.specs.best.Search.{IsChoice};
 
@@ -46,6 +47,7 @@ impl Choice {
         requires number { number < length all.now }
         requires count { length all.now ≤ 20 }
         requires in_order { IsInOrder all.now }
+        requires due { last_deadline all.now ≤ last_tick_in Two }
         requires each { Each IsJob all.now }
         ensures none { IfOk result
             (λ with. MatchOption with (IsGood all.now (self.now.numbers.items ++ number ∷ []) → ⊥)

@@ -1,6 +1,8 @@
 //! The best set of a few jobs.
 ghost use Rattle.std.specs.Prelude.{◌≡◌, ◌≤◌, ◌↔◌, ◌<◌, ℕ, List, length, map, IfOk};
+ghost use Rattle.dover_model.specs.declared.events.Version.TheVariants.{Two};
 ghost use Rattle.dover_model.specs.Common.{Rules, IsInOrder, total_value, IsJob, Each, worth, spread};
+ghost use Rattle.dover_model.specs.Common.{last_deadline, last_tick_in};
 ghost use Rattle.clairvoyant.specs.best.BestSet.{IsBestSet, value_of, pieces_of, renumbered};
 
 use crate::best::choice::Choice;
@@ -36,6 +38,7 @@ fn renumber(chosen: &[u32], pieces: &mut Vec<Piece>)
 fn find(alloc: Global, jobs: &[Job]) -> Result<Best, Memory>
     requires in_order { IsInOrder jobs.now }
     requires count { length jobs.now ≤ 20 }
+    requires due { last_deadline jobs.now ≤ last_tick_in Two }
     ensures chosen { IfOk result (λ best. IsBestSet jobs.now best.chosen.items) }
     ensures value { IfOk result (λ best. best.value ≡ value_of jobs.now best.chosen.items) }
     ensures pieces { IfOk result (λ best. best.pieces.items ≡ pieces_of jobs.now best.chosen.items) }
@@ -74,7 +77,8 @@ fn find(alloc: Global, jobs: &[Job]) -> Result<Best, Memory>
 /// last two released at 1, no schedule serves all. The best set is 0 and 2, which are worth 13: job 0 runs at tick 0,
 /// job 2 up to tick 4, and job 0 up to tick 13.
 pub fn best(alloc: Global, jobs: &[Job]) -> Result<Best, BestFault>
-    requires { IsInOrder jobs.now }
+    requires in_order { IsInOrder jobs.now }
+    requires due { last_deadline jobs.now ≤ last_tick_in Two }
     ensures too_many { (result ≡ Err BestFault.TooMany) ↔ (20 < length jobs.now) }
     ensures chosen { IfOk result (λ best. IsBestSet jobs.now best.chosen.items) }
     ensures value { IfOk result (λ best. best.value ≡ value_of jobs.now best.chosen.items) }

@@ -1,6 +1,7 @@
 //! The search over sets of jobs.
 ghost use Rattle.std.specs.Prelude.{◌≡◌, ◌≤◌, length, drop, IfOk};
-ghost use Rattle.dover_model.specs.Common.{IsInOrder, total_value, IsJob, Each};
+ghost use Rattle.dover_model.specs.declared.events.Version.TheVariants.{Two};
+ghost use Rattle.dover_model.specs.Common.{IsInOrder, total_value, IsJob, Each, last_deadline, last_tick_in};
 ghost use Rattle.clairvoyant.specs.best.Search.{IsChoice, IsSearched};
 
 use crate::best::choice::Choice;
@@ -24,6 +25,7 @@ pub fn search(
 ) -> Result<Option<Choice>, Memory>
     requires in_order { IsInOrder jobs.now }
     requires count { length jobs.now ≤ 20 }
+    requires due { last_deadline jobs.now ≤ last_tick_in Two }
     requires each { Each IsJob jobs.now }
     requires next { next ≤ length jobs.now }
     requires choice { IsChoice jobs.now next choice }

@@ -1,6 +1,6 @@
 //! The judge of feasibility.
 ghost use Rattle.std.specs.Prelude.{◌≤◌, length, IfOk};
-ghost use Rattle.dover_model.specs.Common.{IsInOrder, most_jobs};
+ghost use Rattle.dover_model.specs.Common.{IsInOrder, last_deadline, last_tick_in, most_jobs};
 ghost use Rattle.dover_model.specs.declared.events.Version.TheVariants.{Two};
 ghost use Rattle.clairvoyant.specs.feasible.Feasibility.{IsAnswer};
 
@@ -24,6 +24,7 @@ use std::alloc::Global;
 pub fn judge_feasible(alloc: Global, jobs: &[Job]) -> Result<Feasible, Memory>
     requires in_order { IsInOrder jobs.now }
     requires count { length jobs.now ≤ most_jobs Two }
+    requires due { last_deadline jobs.now ≤ last_tick_in Two }
     ensures { IfOk result (λ answer. IsAnswer jobs.now answer) }
 {
     let schedule = simulate(alloc, jobs)?;

@@ -21,8 +21,8 @@ pub struct DueJob {
 // What one of a deadline counts for in a turn.
 const DEADLINE: u64 = 1 << 20;
 
-/// A deadline and a number as one number, so that a comparison is one of two numbers. The ticks of a feed are below
-/// 2^40.
+/// A deadline and a number as one number, so that a comparison is one of two numbers. The ticks of a feed whose
+/// jobs are kept are below 2^40.
 fn turn_of(deadline: u64, number: u64) -> u64
     requires due { deadline < 2 ^ 44 }
     requires few { number < 2 ^ 20 }

@@ -1,7 +1,7 @@
 //! Earliest deadline first, from one release or completion to the next.
 ghost use Rattle.std.specs.Prelude.{◌≡◌, ◌+◌, ◌^◌, ◌<◌, ◌≤◌, ◌⊎◌, length, IfOk, OnOk};
 ghost use Rattle.std.specs.Bool.{OnTrue, OnFalse};
-ghost use Rattle.dover_model.specs.Common.{IsInOrder, most_jobs};
+ghost use Rattle.dover_model.specs.Common.{IsInOrder, last_deadline, last_tick_in, most_jobs};
 ghost use Rattle.dover_model.specs.declared.events.Version.TheVariants.{Two};
 ghost use Rattle.clairvoyant.specs.feasible.Progress.{StandsAt, HasFew, IsPending, NoneBefore, RunsUntil, IsWhole};
 ghost use Rattle.clairvoyant.specs.feasible.Progress.{with_late};
@@ -30,6 +30,7 @@ impl Simulation {
     fn release(&mut self, jobs: &[Job]) -> Result<(), Memory>
         requires order { IsInOrder jobs.now }
         requires count { length jobs.now ≤ most_jobs Two }
+        requires due { last_deadline jobs.now ≤ last_tick_in Two }
         requires stands { StandsAt jobs.now self.old self.old.clock }
         ensures stands { OnOk result (StandsAt jobs.now self.new (self.new.clock + 1)) }
         ensures clock { self.new.clock ≡ self.old.clock }
@@ -98,6 +99,7 @@ impl Simulation {
     fn step(&mut self, jobs: &[Job]) -> Result<bool, Memory>
         requires order { IsInOrder jobs.now }
         requires count { length jobs.now ≤ most_jobs Two }
+        requires due { last_deadline jobs.now ≤ last_tick_in Two }
         requires stands { StandsAt jobs.now self.old (self.old.clock + 1) }
         requires few { HasFew self.old }
         ensures stands { IfOk result (λ more. OnTrue more (StandsAt jobs.now self.new (self.new.clock + 1))) }
@@ -135,6 +137,7 @@ fn with_late(late: Option<u64>, deadline: u64, done: u64) -> Option<u64>
 pub fn simulate(alloc: Global, jobs: &[Job]) -> Result<Simulation, Memory>
     requires order { IsInOrder jobs.now }
     requires count { length jobs.now ≤ most_jobs Two }
+    requires due { last_deadline jobs.now ≤ last_tick_in Two }
     ensures { IfOk result (λ s. IsWhole jobs.now s.pieces.items s.late) }
 {
     let mut simulation = Simulation {

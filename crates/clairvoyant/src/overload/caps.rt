@@ -1,6 +1,6 @@
 //! Caps on what jobs are worth.
 ghost use Rattle.std.specs.Prelude.{◌≡◌, ◌≤◌, ◌+◌, ◌^◌, ◌↔◌, cond, length, IsTrue, IfOk};
-ghost use Rattle.dover_model.specs.Common.{IsInOrder, total_value, most_jobs};
+ghost use Rattle.dover_model.specs.Common.{IsInOrder, total_value, last_deadline, last_tick_in, most_jobs};
 ghost use Rattle.dover_model.specs.declared.events.Version.TheVariants.{Two};
 ghost use Rattle.clairvoyant.specs.overload.Stretches.{Caps, IsWorth, most_sought, sets_of};
 
@@ -40,6 +40,7 @@ fn is_sought(count: usize, sets: &mut u64) -> bool
 pub(crate) fn cap(alloc: Global, jobs: &[Job], total: u64, sets: &mut u64) -> Result<u64, Memory>
     requires in_order { IsInOrder jobs.now }
     requires count { length jobs.now ≤ most_jobs Two }
+    requires due { last_deadline jobs.now ≤ last_tick_in Two }
     requires total { total ≡ total_value jobs.now }
     ensures cap { IfOk result (λ cap. Caps jobs.now cap) }
     ensures less { IfOk result (λ cap. cap ≤ total) }

@@ -2,7 +2,7 @@
 ghost use Rattle.std.specs.Prelude.{◌≡◌, ◌≤◌, ◌<◌, ◌+◌, ◌-◌, ◌&&◌, [], cond, false, get_or, length, OnOk, IfOk};
 ghost use Rattle.std.specs.Prelude.{MatchOption};
 ghost use Rattle.dover_model.specs.Common.{IsInOrder, total_value, IsJob, last_tick, most_jobs, most_value, Each};
-ghost use Rattle.dover_model.specs.Common.{is_inside, work_inside};
+ghost use Rattle.dover_model.specs.Common.{is_inside, last_deadline, last_tick_in, work_inside};
 ghost use Rattle.dover_model.specs.declared.events.Version.TheVariants.{Two};
 ghost use Rattle.clairvoyant.specs.feasible.Feasibility.{CanMeet};
 ghost use Rattle.clairvoyant.specs.overload.Stretches.{IsStretch, IsReached, IsCosted, IsWorth, jobs_inside, sets_of};
@@ -46,9 +46,10 @@ fn near(jobs: &[Job], from: u64, until: u64) -> &[Job]
 fn stretch(alloc: Global, jobs: &[Job], ticks: Ticks, sets: &mut u64) -> Result<Stretch, Memory>
     requires in_order { IsInOrder jobs.now }
     requires count { length jobs.now ≤ most_jobs Two }
+    requires due { last_deadline jobs.now ≤ last_tick_in Two }
     requires each { Each IsJob jobs.now }
     requires some { ticks.from < ticks.until }
-    requires due { ticks.until ≤ last_tick }
+    requires low { ticks.until ≤ last_tick }
     requires overfull { ticks.until - ticks.from < work_inside jobs.now ticks.from ticks.until }
     ensures from { IfOk result (λ x. x.from ≡ ticks.from) }
     ensures until { IfOk result (λ x. x.until ≡ ticks.until) }
@@ -79,6 +80,7 @@ fn overfull_between(
 ) -> Result<Option<Ticks>, Memory>
     requires in_order { IsInOrder jobs.now }
     requires count { length jobs.now ≤ most_jobs Two }
+    requires due { last_deadline jobs.now ≤ last_tick_in Two }
     requires each { Each IsJob jobs.now }
     ensures { IfOk result (λ found. MatchOption found
         (CanMeet (jobs_inside jobs.now from until)) (IsFirst jobs.now from until)) }
@@ -103,6 +105,7 @@ impl Costing {
     fn push(&mut self, alloc: Global, jobs: &[Job], ticks: Ticks) -> Result<(), Memory>
         requires in_order { IsInOrder jobs.now }
         requires count { length jobs.now ≤ most_jobs Two }
+        requires due { last_deadline jobs.now ≤ last_tick_in Two }
         requires each { Each IsJob jobs.now }
         requires costed { HasCosted jobs.now self.old }
         requires first { IsFirst jobs.now self.old.at last_tick ticks }
@@ -120,6 +123,7 @@ impl Costing {
     fn fill(&mut self, alloc: Global, jobs: &[Job], until: u64) -> Result<(), Memory>
         requires in_order { IsInOrder jobs.now }
         requires count { length jobs.now ≤ most_jobs Two }
+        requires due { last_deadline jobs.now ≤ last_tick_in Two }
         requires each { Each IsJob jobs.now }
         requires costed { HasCosted jobs.now self.old }
         requires ahead { self.old.at ≤ until }
@@ -139,6 +143,7 @@ impl Costing {
     fn add(&mut self, alloc: Global, jobs: &[Job], ticks: Ticks) -> Result<(), Memory>
         requires in_order { IsInOrder jobs.now }
         requires count { length jobs.now ≤ most_jobs Two }
+        requires due { last_deadline jobs.now ≤ last_tick_in Two }
         requires each { Each IsJob jobs.now }
         requires costed { HasCosted jobs.now self.old }
         ensures { OnOk result (HasCosted jobs.now self.new) }
@@ -158,6 +163,7 @@ impl Costing {
     fn find(&mut self, alloc: Global, jobs: &[Job], value: u64) -> Result<(), Memory>
         requires in_order { IsInOrder jobs.now }
         requires count { length jobs.now ≤ most_jobs Two }
+        requires due { last_deadline jobs.now ≤ last_tick_in Two }
         requires each { Each IsJob jobs.now }
         requires costed { HasCosted jobs.now self.old }
         requires value { IsWorth jobs.now value }
@@ -185,6 +191,7 @@ impl Costing {
 pub fn cost_of(alloc: Global, jobs: &[Job], value: u64) -> Result<Costed, Memory>
     requires in_order { IsInOrder jobs.now }
     requires count { length jobs.now ≤ most_jobs Two }
+    requires due { last_deadline jobs.now ≤ last_tick_in Two }
     requires value { IsWorth jobs.now value }
     ensures { IfOk result (IsCosted jobs.now) }
 {

@@ -37,16 +37,20 @@ search-requires-in-None-found t c =
     let short : c.args.next < length c.args.jobs.now =
     (let other = c.if-next-jobs.false in omega (arith, other, c.requires.next)) in
     let later = choice_later c.args.jobs.now c.args.next c.args.choice c.requires.choice in
-    let rest = left_next _ _ _ _ _ c.requires.left short c.index-jobs-next.is c.value.ensures.is in
-    (search rules, (c.requires.in_order, (c.requires.count, (c.requires.each, (omega arith, (later, rest))))))
+    let rest = left_next _ _ _ _ _ c.requires.left short c.index-jobs-next.is c.value.ensures.is in (
+      search rules,
+      (c.requires.in_order, (c.requires.count, (c.requires.due, (c.requires.each, (omega arith, (later, rest)))))),
+    )
 
 pub search-requires-in-Some-found : goal.search-requires-in-Some-found
 search-requires-in-Some-found t c =
     let short : c.args.next < length c.args.jobs.now =
     (let other = c.if-next-jobs.false in omega (arith, other, c.requires.next)) in
     let later = choice_later c.args.jobs.now c.args.next c.args.choice c.requires.choice in
-    let rest = left_next _ _ _ _ _ c.requires.left short c.index-jobs-next.is c.value.ensures.is in
-    (search rules, (c.requires.in_order, (c.requires.count, (c.requires.each, (omega arith, (later, rest))))))
+    let rest = left_next _ _ _ _ _ c.requires.left short c.index-jobs-next.is c.value.ensures.is in (
+      search rules,
+      (c.requires.in_order, (c.requires.count, (c.requires.due, (c.requires.each, (omega arith, (later, rest)))))),
+    )
 
 pub returns-in-None-found : goal.returns-in-None-found
 returns-in-None-found t c =
@@ -130,8 +134,10 @@ search-requires t c =
     (let other = c.if-next-jobs.false in omega (arith, other, c.requires.next)) in
     let put = subst (λ o. MatchOption o (Unit {0}) (λ choice. IsChoice c.args.jobs.now (c.args.next + 1) choice))
     c.in-Some.is c.in_ok-with.ensures.choice in
-    let rest = left_next _ _ _ _ _ c.requires.left short c.index-jobs-next.is c.value.ensures.is in
-    (search rules, (c.requires.in_order, (c.requires.count, (c.requires.each, (omega arith, (put, rest))))))
+    let rest = left_next _ _ _ _ _ c.requires.left short c.index-jobs-next.is c.value.ensures.is in (
+      search rules,
+      (c.requires.in_order, (c.requires.count, (c.requires.due, (c.requires.each, (omega arith, (put, rest)))))),
+    )
 
 pub overflow_sub-left : goal.overflow_sub-left
 overflow_sub-left t c =

@@ -34,8 +34,7 @@ loop-i-preserved-else-b-release c = record {
     c.loop-i.invariant.small,
     c.loop-i-test.true,
     c.work-work.ensures.is,
-    (job_limits c.work-work.ensures.job).window,
-    (job_limits c.work-work.ensures.job).due,
+    (job_limits c.work-work.ensures.job).small,
   );
 }
 
@@ -76,6 +75,5 @@ overflow_add-work c = omega (
   c.loop-i.invariant.small,
   c.requires.count,
   c.work-work.ensures.is,
-  (job_limits c.work-work.ensures.job).window,
-  (job_limits c.work-work.ensures.job).due,
+  (job_limits c.work-work.ensures.job).small,
 )

@@ -36,8 +36,7 @@ loop-job-preserved c =
           w.work-is,
           w.work-work.ensures.is,
           c.loop-job.invariant.small,
-          (job_limits w.work-work.ensures.job).window,
-          (job_limits w.work-work.ensures.job).due,
+          (job_limits w.work-work.ensures.job).small,
         );
       }
       | else-a-release w ↦
@@ -64,6 +63,5 @@ overflow_add-work c = omega (
   c.loop-job-test.true,
   c.requires.count,
   c.work-work.ensures.is,
-  (job_limits c.work-work.ensures.job).window,
-  (job_limits c.work-work.ensures.job).due,
+  (job_limits c.work-work.ensures.job).small,
 )

@@ -1,9 +1,10 @@
 use Rattle.std.proofs.Common.{◌≤◌, List, length, sym, subst, arith}
 use Rattle.dover_model.specs.declared.events.Version.TheVariants.{Two}
-use Rattle.dover_model.specs.Common.{most_jobs, IsInOrder, JobFacts, is_inside}
+use Rattle.dover_model.specs.Common.{last_deadline, last_tick_in, most_jobs, IsInOrder, JobFacts, is_inside}
 use Rattle.dover_model.proofs.valid.ValidParts.{order_parts, order_from}
 use Rattle.clairvoyant.specs.feasible.Feasibility.{CanMeet, IsAnswer, ShowsWindow}
 use Rattle.clairvoyant.specs.declared.feasible.answer.Feasible.{Feasible}
+use Rattle.clairvoyant.proofs.feasible.Dues.{filter_due}
 use Rattle.clairvoyant.proofs.overload.Filling.{first_shown}
 use Rattle.clairvoyant.proofs.overload.Near.{found_inside, filter_few, filter_in_order}
 use Rattle.clairvoyant.proofs.overload.NoneMet.{window_shown}
@@ -31,3 +32,8 @@ returns c = first_shown c.args.jobs.now c.requires.each c.args.from c.args.until
     (subst (λ js. ShowsWindow js c.in-Window.a c.in-Window.b c.in-Window.work)
     (found_inside _ _ _ c.requires.each _ _ _ c.deref.ensures.value c.in_ok-between.ensures c.near.ensures)
     (window_shown _ _ _ _ _ c.in-Window.is c.in_ok-judge_feasible.ensures))
+
+pub judge_feasible-requires-clause-due : goal.judge_feasible-requires-clause-due
+judge_feasible-requires-clause-due c = subst (λ js. last_deadline js ≤ last_tick_in Two)
+    (sym (found_inside _ _ _ c.requires.each _ _ _ c.deref.ensures.value c.in_ok-between.ensures c.near.ensures))
+    (omega (arith, filter_due (is_inside c.args.from c.args.until) c.args.jobs.now, c.requires.due))

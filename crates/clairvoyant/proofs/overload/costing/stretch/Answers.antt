@@ -1,7 +1,8 @@
 use Rattle.std.proofs.Common.{◌≤◌, ◌+◌, ◌∙◌, length, sym, ap, subst, arith}
 use Rattle.dover_model.specs.declared.events.Version.TheVariants.{Two}
-use Rattle.dover_model.specs.Common.{most_jobs, IsInOrder, total_value, is_inside}
+use Rattle.dover_model.specs.Common.{last_deadline, last_tick_in, most_jobs, IsInOrder, total_value, is_inside}
 use Rattle.clairvoyant.specs.overload.Stretches.{Caps, IsWorth, most_sought, sets_of}
+use Rattle.clairvoyant.proofs.feasible.Dues.{filter_due}
 use Rattle.clairvoyant.proofs.overload.Near.{found_inside, filter_few, filter_in_order}
 use Rattle.dover_model.proofs.valid.ValidParts.{order_parts, order_from}
 use Rattle.clairvoyant.proofs.overload.costing.stretch.Goals as goal
@@ -44,3 +45,8 @@ pub returns-clause-spent : goal.returns-clause-spent
 returns-clause-spent c = subst (λ js. c.args.sets.now ≤ c.cap.new.sets + sets_of (length js))
     (found_inside _ _ _ c.requires.each _ _ _ c.deref-2.ensures.value c.in_ok-inside.ensures c.near.ensures)
     c.cap.ensures.spent
+
+pub cap-requires-clause-due : goal.cap-requires-clause-due
+cap-requires-clause-due c = subst (λ js. last_deadline js ≤ last_tick_in Two) (sym
+    (found_inside _ _ _ c.requires.each _ _ _ c.deref-2.ensures.value c.in_ok-inside.ensures c.near.ensures))
+    (omega (arith, filter_due (is_inside c.args.ticks.from c.args.ticks.until) c.args.jobs.now, c.requires.due))

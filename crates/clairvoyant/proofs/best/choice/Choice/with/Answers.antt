@@ -1,7 +1,9 @@
-use Rattle.std.proofs.Common.{◌≡◌, ◌+◌, ◌++◌, ◌∷◌, [], length, ap, sym, subst, arith, ◌∙◌}
-use Rattle.dover_model.specs.Common.{IsInOrder, edf, stretches}
+use Rattle.std.proofs.Common.{◌≡◌, ◌≤◌, ◌+◌, ◌++◌, ◌∷◌, [], length, ap, sym, subst, arith, ◌∙◌}
+use Rattle.dover_model.specs.declared.events.Version.TheVariants.{Two}
+use Rattle.dover_model.specs.Common.{IsInOrder, edf, last_deadline, last_tick_in, stretches}
 use Rattle.clairvoyant.specs.feasible.Feasibility.{IsAnswer, ServesAll}
 use Rattle.clairvoyant.specs.best.BestSet.{RiseWithin, value_of, jobs_at}
+use Rattle.clairvoyant.proofs.feasible.Dues.{chosen_due}
 use Rattle.clairvoyant.proofs.best.Rising.{rise_length, rise_wider}
 use Rattle.clairvoyant.proofs.best.Values.{get_is, value_few}
 use Rattle.clairvoyant.proofs.best.Lifting.{jobs_few, order_at}
@@ -82,3 +84,13 @@ returns-clause-choice c =
 pub returns-clause-none : goal.returns-clause-none
 returns-clause-none c = c.in_ok-push-2.ensures.items
     ∙ ap (λ ns. ns ++ c.args.number ∷ []) (c.in_ok-numbers.ensures.items ∙ c.deref-3.ensures.value)
+
+pub judge_feasible-requires-clause-due : goal.judge_feasible-requires-clause-due
+judge_feasible-requires-clause-due c =
+    let numbers = c.args.self.now.numbers.items ++ c.args.number ∷ [] in
+    subst (λ js. last_deadline js ≤ last_tick_in Two) (sym (jobs_grow c.args.all.now c.args.self.now.numbers.items
+    c.args.number c.index-all-number.result c.args.self.now.jobs.items
+    c.deref-2.result.now c.requires.number c.index-all-number.is c.requires.choice.jobs
+    (c.deref-2.ensures.value ∙ c.in_ok-push.ensures.items
+    ∙ ap (λ jobs. jobs ++ c.index-all-number.result ∷ []) (c.in_ok-jobs.ensures.items ∙ c.deref.ensures.value))))
+    (omega (arith, chosen_due c.args.all.now numbers, c.requires.due))

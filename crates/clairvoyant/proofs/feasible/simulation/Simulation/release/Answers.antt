@@ -4,6 +4,7 @@ use Rattle.clairvoyant.specs.feasible.Progress.{Stands}
 use Rattle.clairvoyant.proofs.feasible.Standing.{stands_until, stands_moved, stands_release, moved_to_next}
 use Rattle.clairvoyant.proofs.feasible.Standing.{moved_to_end}
 use Rattle.clairvoyant.proofs.feasible.Running.{next_found}
+use Rattle.clairvoyant.proofs.feasible.Dues.{found_due}
 use Rattle.dover_model.proofs.valid.ValidParts.{order_parts}
 use Rattle.clairvoyant.proofs.feasible.simulation.Simulation.release.Goals as goal
 
@@ -61,3 +62,12 @@ pub returns-in_default-clause-moves : goal.returns-in_default-clause-moves
 returns-in_default-clause-moves c =
     moved_to_end c.args.jobs.now c.args.self.now.clock c.args.self.now.queue.released c.loop-job.self.queue.released
     (omega (arith, c.in_default.ensures.lookup.3, c.released.ensures))
+
+pub release-requires-in-Some-clause-due : goal.release-requires-in-Some-clause-due
+release-requires-in-Some-clause-due c = omega (
+  arith,
+  c.requires.due,
+  c.deadline.ensures.is,
+  found_due c.args.jobs.now c.loop-job.self.queue.released c.in-Some.job.now
+      (next_found _ _ _ _ c.released.ensures c.in-Some.ensures.lookup.3.0 c.in-Some.ensures.lookup.1),
+)
