@@ -108,6 +108,7 @@ module _ (picks : Picks) (ranks : Entry → ℕ) (ranked : IsRanked picks ranks)
   pub within : (t : ℕ) → Each (λ u. 0 < left u → IsEntry (entry_of u)) (tasks_at picks jobs t)
   within t u member some = record {
     some = omega (arith, some);
+    small = omega (arith, (job_limits job).small);
     fits = omega (arith, (job_limits job).window);
     due = (job_limits job).due;
     worth = (job_limits job).worth;

@@ -1,15 +1,15 @@
 -- What a policy picks up to a tick depends on the jobs that are released by then alone.
 use Rattle.std.proofs.Common.{◌≡◌, ℕ, suc, zero, ◌+◌, ◌≤◌, ◌<◌, inl, inr, List, [], ◌∷◌, ◌++◌, length, get_or, map}
-use Rattle.std.proofs.Common.{refl, sym, ap, ◌∙◌, subst, Bool, true, false, cond, arith, None, unwrap_or, filter, fold}
+use Rattle.std.proofs.Common.{refl, sym, ap, ◌∙◌, subst, Bool, true, false, cond, arith, None, unwrap_or, filter}
 use Rattle.std.proofs.Common.{append-nil}
 use Rattle.std.proofs.lemmas.List.{map-append}
 use Rattle.std.proofs.lemmas.List.Elements.{filter-append}
 use Rattle.dover_model.specs.Common.{JobFacts, entry_of, to_come, left, last_deadline, given, known_at, IsMember, Each}
 use Rattle.dover_model.specs.declared.events.Task.{Task}
-use Rattle.dover_model.proofs.lists.Members.{on_map, member_front}
+use Rattle.dover_model.proofs.lists.Members.{all_member, on_map, member_front}
 use Rattle.dover_model.proofs.settled.Prefixes.{come_append}
 use Rattle.dover_model.proofs.valid.Valid.{Split, split_known}
-use Rattle.dover_model.proofs.rest.Resting.{later_due, due_least}
+use Rattle.dover_model.proofs.valid.Dues.{dues_most}
 use Rattle.policy_lab.specs.Picks.{Picks}
 use Rattle.policy_lab.specs.PolicyRun.{is_ready, picked, policy_run_from, policy_run}
 use Rattle.policy_lab.proofs.Given.{ready_says, given_job}
@@ -85,23 +85,6 @@ module _ (picks : Picks) (idles : picks [] ≡ None) where
         same : picked picks t (known ++ later) ≡ picked picks t known
         same = unseen t last known later (omega arith) late
 
--- no deadline is greater than the greatest
-pub greatest : (jobs : List JobFacts) (d : ℕ) → (d ≤ fold later_due d jobs)
-    × Each (λ j. j.deadline ≤ fold later_due d jobs) jobs
-greatest [] d = (omega arith, λ j member. absurd member)
-greatest (j ∷ jobs) d = with_first (greatest jobs (later_due d j)) where
-  with_first : (later_due d j ≤ fold later_due (later_due d j) jobs)
-      × Each (λ i. i.deadline ≤ fold later_due (later_due d j) jobs) jobs
-      → (d ≤ fold later_due (later_due d j) jobs)
-      × Each (λ i. i.deadline ≤ fold later_due (later_due d j) jobs) (j ∷ jobs)
-  with_first rest = (omega (arith, (due_least d j).0, rest.0), each rest.0 rest.1) where
-    each : later_due d j ≤ fold later_due (later_due d j) jobs
-        → Each (λ i. i.deadline ≤ fold later_due (later_due d j) jobs) jobs
-        → Each (λ i. i.deadline ≤ fold later_due (later_due d j) jobs) (j ∷ jobs)
-    each most of_rest i (inl e) = let same : i.deadline ≡ j.deadline = ap (λ (x : JobFacts). x.deadline) e in
-        omega (arith, (due_least d j).1, most)
-    each most of_rest i (inr member) = of_rest i member
-
 -- of the jobs of tasks that are to come
 each_come : (P : JobFacts → Type 0) (n : ℕ) (jobs : List JobFacts) → Each P jobs
     → Each (λ task. P task.job) (to_come n jobs)
@@ -121,7 +104,8 @@ module _ (picks : Picks) (idles : picks [] ≡ None) (t : ℕ) where
       (each_come (λ j. t < j.release) _ _ (λ j m. let late : t + 1 ≤ j.release = parts.late j m in omega arith))
       (each_come (λ j. j.deadline ≤ 0 + last_deadline jobs) 0 (known_at t jobs) (λ j m.
       let due : j.deadline ≤ last_deadline jobs =
-      (greatest jobs 0).1 j (subst (IsMember j) (sym parts.whole) (member_front (known_at t jobs) parts.more j m)) in
+      all_member (λ (i : JobFacts). i.deadline ≤ last_deadline jobs) jobs (dues_most jobs 0) j
+      (subst (IsMember j) (sym parts.whole) (member_front (known_at t jobs) parts.more j m)) in
       omega arith)) where
         parts : Split t jobs
         parts = split_known t jobs order

@@ -14,7 +14,7 @@ use Rattle.std.proofs.lemmas.Option.{slice_get_within}
 use Rattle.std.proofs.lemmas.List.Sorted.{IsPermutation-map, IsPermutation-sym}
 use Rattle.std.proofs.lemmas.List.Sums.{sum_by-cons}
 use Rattle.dover_model.specs.Common.{JobFacts, IsJob, entry_of, left, IsMember, Each, idle, given}
-use Rattle.dover_model.specs.Common.{last_deadline, stretches, to_come, total_value}
+use Rattle.dover_model.specs.Common.{last_deadline, last_tick, stretches, to_come, total_value}
 use Rattle.dover_model.specs.declared.events.Task.{Task}
 use Rattle.dover_model.specs.declared.events.Entry.{Entry}
 use Rattle.dover_model.specs.declared.pieces.Piece.{Piece}
@@ -22,6 +22,7 @@ use Rattle.dover_model.proofs.lists.Members.{all_member, map_member, on_map, sum
 use Rattle.dover_model.proofs.steps.Loads.{sum_change}
 use Rattle.dover_model.proofs.steps.Roles.{one_number}
 use Rattle.dover_model.proofs.runs.Honest.{count_jobs, numbers_low}
+use Rattle.dover_model.proofs.valid.Dues.{dues_most}
 use Rattle.dover_model.proofs.valid.JobLimits.{job_limits}
 use Rattle.dover_model.proofs.valid.ValidParts.{ReleasesInOrder}
 use Rattle.clairvoyant.specs.feasible.Progress.{NoneBefore}
@@ -38,7 +39,6 @@ use Rattle.policy_lab.specs.Bench.{tasks_at, schedule_before, served_by, entry_w
 use Rattle.policy_lab.specs.Bench.{HasQueue, HasRun, HasTally, HasEnded, IsNext, last_at}
 use Rattle.policy_lab.specs.Stops.{stop_by}
 use Rattle.policy_lab.proofs.Given.{ready_says, says_ready}
-use Rattle.policy_lab.proofs.Onlines.{greatest}
 use Rattle.policy_lab.proofs.Runs.{numbered_at, jobs_at, good_at, most_served, low_numbers, fits_at}
 use Rattle.policy_lab.proofs.Leading.{Leads, Rests, RunsFor, RestsFor, leads_run, rests_run, rests_idle}
 use Rattle.policy_lab.proofs.Counting.{stopped_at, stops_none, stops_one}
@@ -79,11 +79,12 @@ put_rank ranks number amount d v rank j due worth is = is
       with_due x y = record { number = number; deadline = x; latest = x - amount; left = amount; value = y }
 
 -- it is within the limits
-pub put_within : (number amount : ℕ) (j : JobFacts) → IsJob j → number < 2 ^ 20 → 1 ≤ amount → amount ≤ j.deadline
+pub put_within : (number amount : ℕ) (j : JobFacts) → IsJob j → number < 2 ^ 20 → 1 ≤ amount → amount ≤ j.work
     → IsEntry (entry_with number amount j)
 put_within number amount j job few some fits = record {
   some = some;
-  fits = fits;
+  small = omega (arith, fits, (job_limits job).small);
+  fits = omega (arith, fits, (job_limits job).window);
   due = (job_limits job).due;
   worth = (job_limits job).worth;
   modest = (job_limits job).modest;
@@ -103,8 +104,8 @@ module _ (picks : Picks) (ranks : Entry → ℕ) (ranked : IsRanked picks ranks)
 
   -- each is due by the greatest deadline
   due_last : (t : ℕ) → Each (λ u. u.job.deadline ≤ last_deadline jobs) (at t)
-  due_last t u member = (greatest jobs 0).1 u.job
-      (subst (IsMember u.job) (jobs_at picks jobs t) (map_member (λ (v : Task). v.job) (at t) u member))
+  due_last t u member = all_member (λ (j : JobFacts). j.deadline ≤ last_deadline jobs) jobs (dues_most jobs 0)
+      u.job (subst (IsMember u.job) (jobs_at picks jobs t) (map_member (λ (v : Task). v.job) (at t) u member))
 
   -- numbers are below the count of jobs
   number_low : (t : ℕ) → Each (λ u. u.number < length jobs) (at t)
@@ -416,7 +417,8 @@ module _ (picks : Picks) (ranks : Entry → ℕ) (ranked : IsRanked picks ranks)
     }
 
   -- what is first ends by the last tick, and has the job of its number
-  pub next_bound : (t released n amount : ℕ) → IsNext ranks t released n amount (at t) → t + amount ≤ 1_000_000_000_000
+  pub next_bound : (t released n amount : ℕ) → IsNext ranks t released n amount (at t)
+      → t + amount ≤ last_tick
   next_bound t released n amount next = omega (
     arith,
     (ready_says t next.task next.ready).2,
@@ -616,7 +618,7 @@ module _ (picks : Picks) (ranks : Entry → ℕ) (ranked : IsRanked picks ranks)
       ones (i ∷ js) = omega (arith, sum_by-cons (λ (x : JobFacts). 1) i js, ones js)
 
     -- nor more stops than ticks
-    pub run_stops : tally.stops ≤ 1_000_000_000_000
+    pub run_stops : tally.stops ≤ last_tick
     run_stops = omega (
       arith,
       run.counts.few,

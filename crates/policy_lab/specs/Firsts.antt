@@ -216,5 +216,5 @@ densities_rank = record {
       subst (λ v. f.left * 1_000_000_000_000_000_000 / v ≤ thinness e) (sym same)
       (thin_falls e.value f.left e.left some less);
   low = λ e good. div_below (e.left * 1_000_000_000_000_000_000) e.value (2 ^ 100) (omega (arith, good.worth))
-      (omega (arith, good.worth, good.fits, good.due));
+      (omega (arith, good.worth, good.small));
 }

@@ -2,12 +2,13 @@
 use Rattle.std.specs.Prelude.{◌≡◌, ◌≤◌, ◌<◌, ◌⊎◌, ◌^◌, ◌*◌, ◌+◌, ℕ, List, Some}
 use Rattle.dover_model.specs.declared.events.Entry.{Entry}
 use Rattle.dover_model.specs.Common.{last_tick, IsMember, Each}
-use Rattle.dover_model.specs.Limits.{most_value}
+use Rattle.dover_model.specs.Limits.{most_value, most_work}
 use Rattle.policy_lab.specs.Picks.{Picks, IsPolicy}
 
 -- the entry of a job within the limits that has work left
 pub record IsEntry (e : Entry) : Type 0 where
   pub some : 1 ≤ e.left
+  pub small : e.left ≤ most_work
   pub fits : e.left ≤ e.deadline
   pub due : e.deadline ≤ last_tick
   pub worth : 1 ≤ e.value

@@ -47,7 +47,7 @@ fn put<P: Policy>(
 ) -> Result<(), Memory>
     requires few { number < 2 ^ 20 }
     requires some { 1 ≤ left }
-    requires fits { left ≤ job.now.deadline }
+    requires fits { left ≤ job.now.work }
     ensures { OnOk result (
         (IsPermutation
         ((turn_by (P.ranks policy.now) (entry_with number left job.now), left) ∷ kept_of (heap_items waiting.old))

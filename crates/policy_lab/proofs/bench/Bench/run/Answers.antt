@@ -6,7 +6,6 @@ use Rattle.dover_model.proofs.valid.ValidParts.{order_parts}
 use Rattle.clairvoyant.proofs.feasible.Running.{next_found}
 use Rattle.policy_lab.specs.Ranks.{turn_by}
 use Rattle.policy_lab.specs.Bench.{schedule_before, entry_with, kept_of}
-use Rattle.policy_lab.proofs.Given.{ready_says}
 use Rattle.policy_lab.specs.Stops.{stop_by}
 use Rattle.policy_lab.proofs.Running.{next_ahead, next_bound, next_job, run_most, run_stops, run_done, run_back}
 use Rattle.policy_lab.proofs.Runs.{schedule_length}
@@ -91,12 +90,7 @@ put-requires-clause-fits g c =
     c.index-jobs-number.result
     (next_found c.args.jobs.now c.args.number c.args.number c.index-jobs-number.result refl
     (omega (arith, c.requires.next.low, c.requires.run.few)) c.index-jobs-number.is) in
-    omega (
-      arith,
-      (ready_says _ c.requires.next.task c.requires.next.ready).2,
-      c.requires.next.amount_is,
-      ap (λ (j : JobFacts). j.deadline) job,
-    )
+    omega (arith, c.requires.next.amount_is, ap (λ (j : JobFacts). j.work) job)
 
 pub returns-clause-run : goal.returns-clause-run
 returns-clause-run g c =
