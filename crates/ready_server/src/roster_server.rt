@@ -158,7 +158,7 @@ impl RosterServer {
     /// decision at a latest start, or silent tick, at the mark or after it. At the end it is None where End was given
     /// before. No memory is taken. Comparisons of jobs are counted in `comparisons`.
     ///
-    /// A mark is a tick, at most 1,000,000,000,000. Marks never fall, and none comes behind `Horizon::End`.
+    /// A mark is a tick, at most 10^16. Marks never fall, and none comes behind `Horizon::End`.
     #[inline(always)]
     pub fn step<L: Ledger>(
         &mut self,
