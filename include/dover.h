@@ -2,10 +2,10 @@
    docs/LIVE.md says what that is worth and what is trusted.
 
    Units   A tick is whatever the caller counts: a microsecond, a millisecond, a frame. Releases, deadlines and marks
-           are ticks from 0 to 1,000,000,000,000; work is in ticks; value is in any unit. The clock is the caller's:
-           the engine goes where a mark sends it.
-   Jobs    1 <= work, release + work <= deadline <= 1,000,000,000,000, 1 <= value <= 1,000,000,000. The ratio p/q is
-           an upper bound of how often the densest job (value for each tick of work) is worth the least dense one:
+           are ticks from 0 to 10,000,000,000,000,000, in versions 1 and 2 to 1,000,000,000,000; work is in ticks; value
+           is in any unit. The clock is the caller's: the engine goes where a mark sends it.
+   Jobs    1 <= work <= 1,000,000,000,000, release + work <= deadline, 1 <= value <= 1,000,000,000. The ratio p/q is an
+           upper bound of how often the densest job (value for each tick of work) is worth the least dense one:
            1 <= q <= 1,000, q <= p <= 1,000,000.
    Limits  At once: `capacity` open jobs, which are admitted and not over; at most 1,000,000. A job is over at its
            deadline at the latest, so as many are enough as can come within the longest time from a release to its
@@ -14,7 +14,7 @@
            and no job is open: dover_spare is then the room that there was at first. From there on these two limits
            and that of densities start anew, each time; the clock and the numbers go on. An engine that never rests
            answers DOVER_COUNT or DOVER_TOTAL from such a limit on till the open jobs are over. No rest lifts two: the
-           last tick, and 10,000,000,000,000,000,000 jobs in all, which are 10,000,000 for each tick that there is.
+           last tick, and 10,000,000,000,000,000,000 jobs in all, which are at least 1,000 for each tick that there is.
            dover_restart lifts both: at rest it begins the clock and the numbers anew.
    Memory  dover_init takes all of it: 116 bytes for each job of the capacity, 152 in version 4, and a little more.
            No later call takes or gives back any, but dover_drop, which gives all back.
@@ -122,7 +122,7 @@ enum {                  /* fields */
     DOVER_ABANDON = 6,  /* tick, job: it is given up */
     DOVER_END = 7,      /* tick, other: the value of all jobs that completed is other * 2^64 + tick. All are over */
     DOVER_FALLS = 8,    /* the mark is below the last one */
-    DOVER_LATE = 9,     /* the mark is above 1,000,000,000,000 */
+    DOVER_LATE = 9,     /* the mark is above the last tick of the version */
     DOVER_FINISHED = 10, /* dover_finish was called */
     DOVER_NO_ENGINE = 11
 };

@@ -295,7 +295,7 @@ static int is_restart(dover *d, uint32_t status, uint64_t tick) {
 
 /* Each cause for which nothing begins anew, and that all does where it may: clock, numbers, value and limits. */
 static void restarting(void) {
-    const uint64_t last = UINT64_C(1000000000000);
+    const uint64_t last = UINT64_C(10000000000000000);
     dover_decision e;
     dover_init_factor(&a, 2, 1, 3, 3, 3, 2);
     unsigned long before = taken, back = given_back;
