@@ -22,8 +22,7 @@ fn draw(state: &mut u64) -> u64 {
 
 // The numbers of an item at this place, with many ties.
 fn drawn(state: &mut u64, place: u32) -> Row
-    ensures key { result.0 < 2 ^ 44 }
-    ensures place { result.3 ≡ place }
+    ensures { result.3 ≡ place }
 {
     let key = draw(state) % 8;
     let tie = (draw(state) % 4) as u32;
@@ -80,7 +79,7 @@ fn goes_as_listed<L: Ledger>(
 type Due = (u64, u64, u32);
 
 /// Two jobs, at the places 0 and 1, and the place of the one that comes first.
-static TIES: [(Version, Due, Due, u32); 5] = [
+static TIES: [(Version, Due, Due, u32); 6] = [
     (Version::One, (0, 1, 7), (1, 1_000_000_000, 0), 0),
     (Version::Two, (1, 1_000_000_000, 0), (0, 1, 7), 1),
     (
@@ -101,14 +100,19 @@ static TIES: [(Version, Due, Due, u32); 5] = [
         (1_000_000_000_000, 1, 3),
         0,
     ),
+    (
+        Version::Three,
+        (10_000_000_000_000_000, 1_000_000_000, 0),
+        (9_999_999_999_999_999, 1, u32::MAX),
+        1,
+    ),
 ];
 
-// The item of a job that is small enough.
+// The item of a job whose value is within its limit.
 fn item(version: Version, job: Due, place: u32) -> Option<Item<ShortRank>>
-    requires { place < 2 ^ 20 }
     ensures { IfSome result (λ item. item.place ≡ place) }
 {
-    if job.0 <= 1_000_000_000_000 && job.1 <= MOST_VALUE {
+    if job.1 <= MOST_VALUE {
         return Some(Item::new(job.0, tie_of(version, job.1), job.2, place));
     }
     None
@@ -161,12 +165,12 @@ fn the_first_is_that_of_a_list(rt: HostRuntime) {
 
 /// A key, a tie, a number, and the place, which says as which of them the item comes.
 static LONG: [(u128, u128, u32, u32); 6] = [
-    (1 << 112, 1 << 75, 1, 5),
+    (1 << 127, 1 << 95, 1, 5),
     (1, 1, 3, 2),
-    (0, (1 << 76) - 1, 5, 0),
-    (1 << 112, 0, 2, 3),
+    (0, (1 << 96) - 1, 5, 0),
+    (1 << 127, 0, 2, 3),
     (1, 0, 4, 1),
-    (1 << 112, 1 << 75, 0, 4),
+    (1 << 127, 1 << 95, 0, 4),
 ];
 
 // Puts in the items of the rows, of which none is in the heap then.
