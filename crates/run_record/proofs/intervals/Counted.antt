@@ -1,11 +1,11 @@
 -- What steps tell of the jobs of a run, with one step more.
 use Rattle.std.proofs.Common.{◌≡◌, ℕ, ◌+◌, ◌*◌, ◌^◌, ◌≤◌, ◌<◌, List, length, take, get_or, sym, ap, ◌∙◌, cond, arith}
-use Rattle.std.proofs.Common.{length-take, sum_by}
-use Rattle.std.proofs.lemmas.List.Sums.{sum_by_more, count_by-le-length}
+use Rattle.std.proofs.Common.{length-take, sum_by, fold}
+use Rattle.std.proofs.lemmas.List.Sums.{sum_by_more, count_by-le-length, fold_more}
 use Rattle.dover_model.specs.declared.events.Event.{Event}
 use Rattle.dover_model.specs.Common.{is_take, is_preemption, changes_hands, Prints}
 use Rattle.run_record.specs.intervals.Totals.{is_release, is_completion, is_abandonment, value_released, totals_of}
-use Rattle.run_record.specs.intervals.Totals.{with_step, HasSpace}
+use Rattle.run_record.specs.intervals.Totals.{with_step, later_deadline, HasSpace}
 use Rattle.run_record.specs.declared.intervals.totals.JobTotals.{JobTotals}
 
 -- a sum with one step more
@@ -13,17 +13,24 @@ pub sum_more : (f : Event → ℕ) (run : List Event) (i : ℕ) (e : Event) → 
     → sum_by f (take i run) + f e ≡ sum_by f (take (i + 1) run)
 sum_more f run i e is there = sym (sum_by_more f run i e there ∙ ap (λ x. sum_by f (take i run) + f x) (sym is))
 
+-- the last deadline with one step more
+due_more : (run : List Event) (i : ℕ) (e : Event) → e ≡ get_or run i e → i < length run
+    → later_deadline (fold later_deadline 0 (take i run)) e ≡ fold later_deadline 0 (take (i + 1) run)
+due_more run i e is there = sym (fold_more later_deadline 0 run i e there
+    ∙ ap (later_deadline (fold later_deadline 0 (take i run))) (sym is))
+
 -- what the steps tell with one more
 totals_more : (run : List Event) (i : ℕ) (e : Event) → e ≡ get_or run i e → i < length run
     → with_step (totals_of (take i run)) e ≡ totals_of (take (i + 1) run)
 totals_more run i e is there = same_totals (more (λ x. cond (is_release x) 1 0)) (more value_released)
-    (more (λ x. cond (is_completion x) 1 0)) (more (λ x. cond (is_abandonment x) 1 0))
+    (due_more run i e is there) (more (λ x. cond (is_completion x) 1 0)) (more (λ x. cond (is_abandonment x) 1 0))
     (more (λ x. cond (is_take x) 1 0)) (more (λ x. cond (changes_hands (Prints x)) 1 0))
     (more (λ x. cond (is_preemption x) 1 0)) where
-      whole : (a b c d f g h : ℕ) → JobTotals
-      whole a b c d f g h = record {
+      whole : (a b k c d f g h : ℕ) → JobTotals
+      whole a b k c d f g h = record {
         jobs = a;
         worth = b;
+        due = k;
         completed = c;
         abandoned = d;
         taken = f;
@@ -31,9 +38,9 @@ totals_more run i e is there = same_totals (more (λ x. cond (is_release x) 1 0)
         preempted = h;
       }
 
-      same_totals : {a b c d f g h a2 b2 c2 d2 f2 g2 h2 : ℕ} → a ≡ a2 → b ≡ b2 → c ≡ c2 → d ≡ d2 → f ≡ f2 → g ≡ g2
-          → h ≡ h2 → whole a b c d f g h ≡ whole a2 b2 c2 d2 f2 g2 h2
-      same_totals e1 e2 e3 e4 e5 e6 e7 = cc
+      same_totals : {a b k c d f g h a2 b2 k2 c2 d2 f2 g2 h2 : ℕ} → a ≡ a2 → b ≡ b2 → k ≡ k2 → c ≡ c2 → d ≡ d2
+          → f ≡ f2 → g ≡ g2 → h ≡ h2 → whole a b k c d f g h ≡ whole a2 b2 k2 c2 d2 f2 g2 h2
+      same_totals e1 e2 e3 e4 e5 e6 e7 e8 = cc
 
       more : (f : Event → ℕ) → sum_by f (take i run) + f e ≡ sum_by f (take (i + 1) run)
       more f = sum_more f run i e is there

@@ -5,14 +5,16 @@ ghost use Rattle.run_record.specs.intervals.Totals.{totals_of, with_step, HasSpa
 
 use dover_model::{Event, PackedEvent};
 
-/// How many jobs steps release and what those are worth, how many are done and are gone, how often the processor
-/// changes hands, and how many jobs took it or preempted another.
+/// How many jobs steps release, what those are worth and by when they are due, how many are done and are gone, how
+/// often the processor changes hands, and how many jobs took it or preempted another.
 #[derive(Clone, Copy)]
 pub struct JobTotals {
     /// How many are released.
     pub jobs: u64,
     /// What those are worth.
     pub worth: u128,
+    /// The last deadline of those, 0 where there is none.
+    pub due: u64,
     /// How many are done.
     pub completed: u64,
     /// How many are gone.
@@ -33,6 +35,7 @@ impl JobTotals {
         JobTotals {
             jobs: 0,
             worth: 0,
+            due: 0,
             completed: 0,
             abandoned: 0,
             taken: 0,
@@ -63,6 +66,7 @@ impl JobTotals {
             Event::Release { job, .. } => {
                 self.jobs += 1;
                 self.worth += u128::from(job.value());
+                self.due = self.due.max(job.deadline());
             }
             Event::Complete { .. } => self.completed += 1,
             Event::Abandon { .. } => self.abandoned += 1,
