@@ -8,18 +8,17 @@ use Rattle.dover_model.proofs.valid.JobLimits.{JobLimits, job_limits}
 
 -- how many digits the numbers of a job have at most
 pub record DigitsOf (j : JobFacts) : Type 0 where
-  pub release : length (decimal j.release) ≤ 13
+  pub release : length (decimal j.release) ≤ 17
   pub work : length (decimal j.work) ≤ 13
-  pub deadline : length (decimal j.deadline) ≤ 13
+  pub deadline : length (decimal j.deadline) ≤ 17
   pub value : length (decimal j.value) ≤ 10
 
 pub digits_of : (j : JobFacts) → IsJob j → DigitsOf j
 digits_of j is = record {
-  release = length-decimal-le 13 j.release (omega arith) (omega (arith, limits.window, limits.due))
+  release = length-decimal-le 17 j.release (omega arith) (omega (arith, limits.window, limits.due))
       (omega (arith, limits.window, limits.due));
-  work = length-decimal-le 13 j.work (omega arith) (omega (arith, limits.window, limits.due))
-      (omega (arith, limits.window, limits.due));
-  deadline = length-decimal-le 13 j.deadline (omega arith) (omega (arith, limits.due)) (omega (arith, limits.due));
+  work = length-decimal-le 13 j.work (omega arith) (omega (arith, limits.small)) (omega (arith, limits.small));
+  deadline = length-decimal-le 17 j.deadline (omega arith) (omega (arith, limits.due)) (omega (arith, limits.due));
   value = length-decimal-le 10 j.value (omega arith) (omega (arith, limits.modest)) (omega (arith, limits.modest));
 } where
   limits : JobLimits j

@@ -4,7 +4,7 @@ use Rattle.std.specs.Prelude.{None, slice_get, slice_index_or, sum_by, count_by}
 use Rattle.std.specs.Option.{option_map_or}
 use Rattle.dover_model.specs.declared.events.Event.{Event}
 use Rattle.dover_model.specs.declared.events.Event.TheVariants.{Complete}
-use Rattle.dover_model.specs.Common.{JobFacts, last_tick, with_numbers}
+use Rattle.dover_model.specs.Common.{JobFacts, most_work, with_numbers}
 use Rattle.run_reports.specs.declared.report.early.Early.{Early}
 
 -- the work that is left of the job of number n, by the ticks that the jobs had
@@ -30,7 +30,7 @@ with_left early left = record { jobs = early.jobs + (if nat_lt 0 left then 1 els
 -- there is room for one step more
 pub record HasRoom (early : Early) : Type 0 where
   pub jobs : early.jobs + 1 < 2 ^ 64
-  pub left : early.left + last_tick < 2 ^ 64
+  pub left : early.left + most_work < 2 ^ 64
 
 -- their line
 abbrev pub early_line : Early → List ℕ

@@ -3,7 +3,8 @@ use Rattle.std.specs.Prelude.{◌≡◌, ℕ, ◌+◌, ◌<◌, ◌≤◌, List,
 use Rattle.std.specs.Prelude.{Bool, true, false, nat_lt, if◌then◌else◌}
 use Rattle.dover_model.specs.declared.events.Event.{Event}
 use Rattle.dover_model.specs.declared.events.Event.TheVariants.{Release, Run, Preempt, Take, Complete, Abandon, End}
-use Rattle.dover_model.specs.Limits.{last_tick}
+use Rattle.dover_model.specs.declared.events.Version.TheVariants.{Two}
+use Rattle.dover_model.specs.Limits.{last_tick_in}
 use Rattle.run_reports.specs.views.Stays.{next_switch, stays_of}
 use Rattle.run_reports.specs.declared.views.stays.Stay.{Stay}
 use Rattle.run_reports.specs.declared.views.stays.StayLink.{StayLink}
@@ -16,7 +17,7 @@ pub record Book : Type 0 where
 
 -- of so many jobs, before the last step is read
 abbrev pub blank : ℕ → Book
-blank count = record { links = []; firsts = replicate count 0; switch = last_tick }
+blank count = record { links = []; firsts = replicate count 0; switch = last_tick_in Two }
 
 -- with one more stay in front of those of job n
 abbrev pub linked : Book → (at n : ℕ) → Bool → Book

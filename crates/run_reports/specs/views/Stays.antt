@@ -2,13 +2,14 @@
 use Rattle.std.specs.Prelude.{ℕ, List, [], ◌∷◌, Bool, true, false, ◌==◌, if◌then◌else◌}
 use Rattle.dover_model.specs.declared.events.Event.{Event}
 use Rattle.dover_model.specs.declared.events.Event.TheVariants.{Release, Run, Preempt, Take, Complete, Abandon, End}
-use Rattle.dover_model.specs.Limits.{last_tick}
+use Rattle.dover_model.specs.declared.events.Version.TheVariants.{Two}
+use Rattle.dover_model.specs.Limits.{last_tick_in}
 use Rattle.run_reports.specs.declared.views.stays.Stay.{Stay}
 
 -- the tick of the first of these steps that gives the processor to a job, or frees it, and where none does the last
--- tick
+-- tick of version Two
 abbrev pub next_switch : List Event → ℕ
-next_switch [] = last_tick
+next_switch [] = last_tick_in Two
 next_switch (Release n job ∷ steps) = next_switch steps
 next_switch (Run at n ∷ steps) = at
 next_switch (Preempt at stops starts ∷ steps) = at

@@ -1,6 +1,6 @@
 //! The jobs that completed with work left.
 ghost use Rattle.std.specs.Prelude.{◌≡◌, ◌≤◌, ◌++◌, length, slice_index_or, true, OnOk, IfOk};
-ghost use Rattle.dover_model.specs.Common.{Fraction, Instance, last_tick, in_lines};
+ghost use Rattle.dover_model.specs.Common.{Fraction, Instance, most_work, in_lines};
 ghost use Rattle.dover_model.specs.Observed as observed;
 ghost use Rattle.run_record.specs.intervals.Rows.{IsRunOf};
 ghost use Rattle.run_reports.specs.report.Counts.{jobs_released};
@@ -38,7 +38,7 @@ impl Early {
     /// Counts one that has so much left, if any is.
     fn add(&mut self, left: u64)
         requires room { HasRoom self.old }
-        requires modest { left ≤ last_tick }
+        requires modest { left ≤ most_work }
         ensures { self.new ≡ with_left self.old left }
     {
         self.left += left;
@@ -112,7 +112,7 @@ pub fn had_of(served: &[u64], number: usize) -> u64
 /// The work that is left of the job that a step completes, in ticks, and 0 for another step.
 pub fn left_at(jobs: &[Job], served: &[u64], event: &PackedEvent) -> u64
     ensures is { result ≡ left_at jobs.now served.now event.now }
-    ensures modest { result ≤ last_tick }
+    ensures modest { result ≤ most_work }
 {
     match event.event() {
         Event::Complete { number, .. } => left_of(jobs, served, number as usize),
@@ -123,7 +123,7 @@ pub fn left_at(jobs: &[Job], served: &[u64], event: &PackedEvent) -> u64
 /// The work that is left of the job of this number, in ticks, by the ticks that the jobs had; 0 where there is none.
 pub fn left_of(jobs: &[Job], served: &[u64], number: usize) -> u64
     ensures is { result ≡ left_in jobs.now served.now number }
-    ensures modest { result ≤ last_tick }
+    ensures modest { result ≤ most_work }
 {
     match jobs.get(number) {
         Some(job) => job.work().saturating_sub(had_of(served, number)),

@@ -38,7 +38,8 @@ impl Model for TableRows {
     ghost view = { λ t. rows_left t.run.items t.early t.served.items t.places.items t.starts.items
         t.next t.number };
 
-    ghost invariant = { λ t. (t.number ≤ t.next) × (t.next ≤ length t.run.items) };
+    ghost invariant = { λ t.
+        (t.number ≤ t.next) × (t.next ≤ length t.run.items) × (length t.run.items ≤ 5_000_001) };
 }
 
 impl TableRows {
@@ -66,10 +67,11 @@ impl TableRows {
         })
     }
 
-    /// All rows of the table of a schedule with these steps, whichever policy made it. A row tells when the job first
-    /// had the processor and how often it got it. Want of memory is the only error, and no call takes memory after
-    /// this one.
+    /// All rows of the table of a schedule with these steps, whichever policy made it, of which there are no more than
+    /// 1,000,000 jobs make. A row tells when the job first had the processor and how often it got it. Want of memory is
+    /// the only error, and no call takes memory after this one.
     pub fn of_schedule(alloc: Global, run: Vec<PackedEvent>) -> Result<TableRows, Memory>
+        requires { length run.items ≤ 5_000_001 }
         ensures { IfOk result (λ t. t.names ++ in_lines t.rows ≡ schedule_table run.items) }
     {
         let places = endings(alloc, &run, releases(&run))?;
@@ -159,7 +161,8 @@ fn write_row(
     had: Option<u64>,
     starts: Starts,
 )
-    requires { line.old ≡ 10 ∷ [] }
+    requires empty { line.old ≡ 10 ∷ [] }
+    requires few { number ≤ 5_000_001 }
     ensures text { line.new ≡ row_text number job.now ending (last_fields had starts) ++ 10 ∷ [] }
     ensures fits { length line.new ≤ 168 }
 {
@@ -231,9 +234,9 @@ fn write_ending(line: &mut BackLine, ending: Option<Ending>)
 /// Writes the numbers of a job, each behind a comma.
 #[inline(always)]
 fn write_job(line: &mut BackLine, job: &Job)
-    requires { 53 + length line.old ≤ most_written }
+    requires { 61 + length line.old ≤ most_written }
     ensures is { line.new ≡ after_commas (map decimal (job_numbers job.now)) ++ line.old }
-    ensures fits { length line.new ≤ 53 + length line.old }
+    ensures fits { length line.new ≤ 61 + length line.old }
 {
     write_field(line, job.value());
     write_field(line, job.deadline());

@@ -4,8 +4,7 @@ ghost use Rattle.dover_model.specs.declared.events.Event.{Event};
 ghost use Rattle.run_reports.specs.views.Book.{blank, begun, with_step, Keeps};
 ghost use Rattle.run_reports.specs.views.Stays.{stays_of};
 
-use dover_model::jobs::LAST_TICK;
-use dover_model::{Event, Memory, PackedEvent};
+use dover_model::{Event, Memory, PackedEvent, Version};
 use std::alloc::Global;
 use std::marker::Model;
 
@@ -36,7 +35,8 @@ pub struct Stays {
     links: Vec<StayLink>,
     /// By number, one more than the place of the job's first stay, 0 for none.
     firsts: Vec<usize>,
-    /// The tick of the first step, among those that are read, at which the processor changes hands, or the last tick.
+    /// The tick of the first step, among those that are read, at which the processor changes hands, or the last tick of
+    /// version Two.
     switch: u64,
 }
 
@@ -72,7 +72,7 @@ impl Stays {
         Ok(Stays {
             links: Vec::new(alloc),
             firsts,
-            switch: LAST_TICK,
+            switch: Version::Two.last_tick(),
         })
     }
 

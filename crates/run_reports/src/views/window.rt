@@ -1,7 +1,7 @@
 //! A part of a run's time, and its columns.
 ghost use Rattle.std.specs.Prelude.{◌≡◌, ◌≤◌, ◌<◌, ◌+◌, ◌^◌};
 ghost use Rattle.dover_model.specs.Limits.{last_tick};
-ghost use Rattle.dover_model.specs.Run as model;
+ghost use Rattle.dover_model.specs.Instance as model;
 ghost use Rattle.run_reports.specs.views.Timeline as picture;
 
 use dover_model::Job;

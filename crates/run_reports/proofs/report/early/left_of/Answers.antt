@@ -15,8 +15,7 @@ returns-in-Some-clause-is c = c.saturating_sub.ensures
 
 pub returns-in-Some-clause-modest : goal.returns-in-Some-clause-modest
 returns-in-Some-clause-modest c =
-    let limits = job_limits c.work.ensures.job in
-    omega (arith, c.saturating_sub.ensures, c.work.ensures.is, limits.window, limits.due)
+    omega (arith, c.saturating_sub.ensures, c.work.ensures.is, (job_limits c.work.ensures.job).small)
 
 pub returns-in-None-clause-is : goal.returns-in-None-clause-is
 returns-in-None-clause-is c =

@@ -5,9 +5,16 @@ use Rattle.run_record.specs.intervals.Totals.{is_release}
 use Rattle.run_reports.specs.report.Counts.{jobs_released}
 use Rattle.run_reports.specs.report.Rows.{ending_at, ending_in}
 use Rattle.run_reports.specs.report.Starting.{never, starts_in}
-use Rattle.run_reports.proofs.report.Counting.{releases_count}
+use Rattle.run_reports.proofs.report.Counting.{releases_count, few_steps}
 use Rattle.run_reports.proofs.report.Tables.{whole_table}
 use Rattle.run_reports.proofs.report.rows.TableRows.of.Goals as goal
+
+pub invariant_of-result : goal.invariant_of-result
+invariant_of-result c = (
+  omega arith,
+  omega arith,
+  few_steps c.requires.0 c.args.run.items c.requires.1.0 c.requires.1.1,
+)
 
 pub returns : goal.returns
 returns c k J of three =
