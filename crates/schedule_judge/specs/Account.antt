@@ -4,7 +4,7 @@ use Rattle.std.specs.Prelude.{Some, None, fold, codes, bytes_eq}
 use Rattle.dover_model.specs.declared.events.Event.{Event}
 use Rattle.dover_model.specs.declared.events.Event.TheVariants.{Release, End}
 use Rattle.dover_model.specs.declared.events.Version.TheVariants.{Two}
-use Rattle.dover_model.specs.Common.{most_jobs, most_lines, lines_of, fields_of, is_too_long}
+use Rattle.dover_model.specs.Common.{last_tick_in, most_jobs, most_lines, lines_of, fields_of, is_too_long}
 use Rattle.line_text.specs.traces.Reading.{line_of_fields}
 use Rattle.line_text.specs.declared.traces.lines.TraceLine.{TraceLine}
 use Rattle.line_text.specs.declared.traces.lines.TraceLine.TheVariants as line
@@ -27,15 +27,20 @@ no_lines = record { lines = 0; schedule = blank; standing = Open }
 
 -- ---- a line
 
--- the step of a line of a trace
+-- a job that the step releases is due by the last tick of version Two
+abbrev pub is_due_in_two : Event → Bool
+is_due_in_two (Release n j) = nat_le j.deadline (last_tick_in Two)
+is_due_in_two _ = true
+
+-- the step of a line of a trace, where a schedule may have it
 abbrev pub step_of_read : Option TraceLine → Option Event
 step_of_read None = None
 step_of_read (Some (line.Header version p q factor)) = None
-step_of_read (Some (line.Step e)) = Some e
+step_of_read (Some (line.Step e)) = if is_due_in_two e then Some e else None
 step_of_read (Some (line.Refused at r c d v refusal)) = None
 step_of_read (Some (line.RefusedDone at tick n)) = None
 
--- the step that a line is the text of, as in a trace
+-- the step that a line is the text of, as in a trace of version Two
 abbrev pub step_in : List ℕ → Option Event
 step_in bytes = if is_too_long bytes then None else step_of_read (line_of_fields (fields_of bytes))
 

@@ -55,12 +55,22 @@ fn step_in(line: &[u8]) -> Option<Event>
     }
 }
 
-/// The step of a line of a trace.
+/// A job that the step releases is due by the last tick of version Two.
+fn is_due_in_two(event: &Event) -> bool
+    ensures { result ≡ account.is_due_in_two event.now }
+{
+    match event {
+        Event::Release { job, .. } => job.deadline() <= Version::Two.last_tick(),
+        _ => true,
+    }
+}
+
+/// The step of a line of a trace, where a schedule may have it.
 fn step_of(read: TraceLine) -> Option<Event>
     ensures { result ≡ account.step_of_read (Some read) }
 {
     match read {
-        TraceLine::Step(event) => Some(event),
+        TraceLine::Step(event) if is_due_in_two(&event) => Some(event),
         _ => None,
     }
 }
