@@ -518,8 +518,8 @@ impl Parts {
         Ok(())
     }
 
-    // Whether the state stays pressed: it is, and some job is ready. It stands apart too.
-    #[inline(never)]
+    // Whether the state stays pressed: it is, and some job is ready.
+    #[inline(always)]
     fn stays_pressed(&self) -> bool
         ensures { result ≡ (self.now.pressed && list_any is_open_job (ready_of self.now)) }
     {

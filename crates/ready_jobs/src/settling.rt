@@ -71,8 +71,7 @@ impl Parts {
         self.open_step(k)
     }
 
-    // Takes the silent ticks up to the next other step, or to the mark. No job is fresh.
-    #[inline(always)]
+    // Takes the silent ticks up to the next other step, or to the mark. No job is fresh. Its one caller takes it in.
     fn tick_to(&mut self, k: &Ratio, mark: u64) -> Action
         requires part { IsPart (record { ratio = k.now; version = self.old.version; finishes = [] }) self.old }
         requires stale { self.old.fresh ≡ None }
@@ -99,8 +98,9 @@ impl Parts {
         }
     }
 
-    /// Takes the silent steps up to the next printed one, which it gives, or up to the barrier of the mark.
-    #[inline(always)]
+    /// Takes the silent steps up to the next printed one, which it gives, or up to the barrier of the mark. It stands
+    /// apart, once, so that all above it stays small enough to be taken into its callers.
+    #[inline(never)]
     pub fn settle<L: Ledger>(
         &mut self,
         k: &Ratio,

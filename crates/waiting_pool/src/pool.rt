@@ -109,8 +109,8 @@ fn dense_item(place: u32, t: &Task) -> Item<LongRank>
     Item::long(MOST_DENSITY - density, rest, t.number, place)
 }
 
-// Keeps the item by density of the job at a place, in version Four. It stands apart, so that what calls it stays small.
-#[inline(never)]
+// Keeps the item by density of the job at a place, in version Four. Others pay for a test of the version, and no call.
+#[inline(always)]
 fn add_dense<L: Ledger>(
     version: Version,
     heap: &mut Heap<LongRank>,
@@ -129,8 +129,8 @@ fn add_dense<L: Ledger>(
     }
 }
 
-// Takes out what is kept by density of a place. It stands apart too.
-#[inline(never)]
+// Takes out what is kept by density of a place.
+#[inline(always)]
 fn remove_dense<L: Ledger>(
     version: Version,
     heap: &mut Heap<LongRank>,

@@ -157,7 +157,8 @@ fn refusal_of(fields: &[u8]) -> Option<TraceLine>
     }
 }
 
-/// The line of the fields, by their word.
+/// The line of the fields, by their word. Each crate that reads traces takes it in.
+#[inline(always)]
 fn line_of(line: &[u8]) -> Option<TraceLine>
     ensures { result ≡ model.line_of_fields (fields_of line.now) }
 {
@@ -197,6 +198,7 @@ fn line_of(line: &[u8]) -> Option<TraceLine>
 ///
 /// `BadLine` exactly where the bytes are none of the forms, or a `job` line's fields aren't a job, or a job's number is
 /// above 3,999,999,999.
+#[inline(always)]
 pub fn read_trace_line(line: &[u8]) -> Result<TraceLine, BadLine>
     // What is read has a form, and the bytes are its text.
     ensures form { IfOk result (λ read. HasForm read) }
