@@ -519,7 +519,6 @@ impl Parts {
     }
 
     // Whether the state stays pressed: it is, and some job is ready.
-    #[inline(always)]
     fn stays_pressed(&self) -> bool
         ensures { result ≡ (self.now.pressed && list_any is_open_job (ready_of self.now)) }
     {
@@ -527,7 +526,6 @@ impl Parts {
     }
 
     /// The running job is done, or goes.
-    #[inline(always)]
     pub fn complete(&mut self)
         ensures { self.new ≡ completed self.old }
     {

@@ -49,7 +49,6 @@ fn header_of(fields: &[u8]) -> Option<TraceLine>
 }
 
 /// The line of a step.
-#[inline(always)]
 fn line_of_step(step: Option<Event>) -> Option<TraceLine>
     ensures { result ≡ option_map Step step }
 {

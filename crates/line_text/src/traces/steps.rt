@@ -80,6 +80,7 @@ pub fn release_of(fields: &[u8]) -> Option<Event>
 }
 
 /// The end that fields spell behind its word.
+#[inline(always)]
 #[tactic(auto, using(crate::proofs::traces::NoLine::no_end))]
 pub fn end_of(fields: &[u8]) -> Option<Event>
     ensures { result ≡ option_and_then model.end_of (numerals (fields_of fields.now)) }
@@ -133,6 +134,7 @@ pub fn preempt_of(fields: &[u8]) -> Option<Event>
 }
 
 /// The take that fields spell behind its word.
+#[inline(always)]
 #[tactic(auto, using(crate::proofs::traces::NoLine::no_take))]
 pub fn take_of(fields: &[u8]) -> Option<Event>
     ensures { result ≡ option_and_then model.take_of (numerals (fields_of fields.now)) }
