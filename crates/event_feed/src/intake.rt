@@ -265,7 +265,6 @@ impl Intake {
 
     /// Accepts the job of the last line, which was answered as `Fed::Job`. It isn't accepted where too many jobs are
     /// ready at its release. No line came since.
-    #[inline(always)]
     pub fn accept(&mut self, job: Job)
         requires { HasRoom self.old job }
         ensures { Accepts job self.old self.new }

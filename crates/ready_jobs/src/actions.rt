@@ -115,7 +115,6 @@ pub(crate) fn prints(tick: u64, action: Action, event: &Event) -> bool
 }
 
 // The step at this tick, if the deed prints one.
-#[inline(always)]
 pub(crate) fn event_at(at: u64, action: Action) -> Option<Event>
     ensures { result ≡ event_of (step_at at action) }
 {

@@ -6,9 +6,8 @@ ghost use Rattle.dover_model.specs.Text as form;
 use crate::BackLine;
 use dover_model::{Event, Job, Refusal};
 
-/// Writes the line of a release before its line feed. Where a feed is served, its job's text is taken in its place, so
-/// it doesn't stand among the other steps.
-#[inline(never)]
+/// Writes the line of a release before its line feed.
+#[inline(always)]
 fn write_release(number: u32, job: &Job, to: &mut BackLine)
     requires numbers { AreShort (number ∷ job_numbers job.now) }
     requires empty { to.old ≡ 10 ∷ [] }
