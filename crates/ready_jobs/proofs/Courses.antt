@@ -90,9 +90,15 @@ kept_on c d e one next =
 pub new_follows : (rules : Declaration) (room : ℕ) → IsRatio rules.ratio
     → Follows (new_course rules room) (record { rules = under rules []; jobs = [] }) (opening [])
 new_follows rules room ratio = record {
-  valid = valid_from (record
-      { ratio = ratio; each = tt; due = omega arith; in_order = tt; count = omega arith; total = omega arith;
-      densities = tt });
+  valid = valid_from (record {
+    ratio = ratio;
+    each = tt;
+    due = omega arith;
+    in_order = tt;
+    count = omega arith;
+    total = omega arith;
+    densities = tt;
+  });
   keeps = opening_keeps (record { rules = under rules []; jobs = [] });
   rules = refl;
   own = λ f m. absurd m;

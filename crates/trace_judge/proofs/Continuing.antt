@@ -682,9 +682,15 @@ sees_header rules ratio declared = (
   valid_new : IsValidSession (new_session rules)
   valid_new = session_from (record {
     declared = declared;
-    jobs = valid_from (record
-        { ratio = ratio; each = tt;
-      due = omega arith; in_order = tt; count = omega arith; total = omega arith; densities = tt });
+    jobs = valid_from (record {
+      ratio = ratio;
+      each = tt;
+      due = omega arith;
+      in_order = tt;
+      count = omega arith;
+      total = omega arith;
+      densities = tt;
+    });
     count = omega arith;
     items = tt;
   })
