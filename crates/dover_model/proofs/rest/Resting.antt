@@ -4,7 +4,7 @@ use Rattle.std.proofs.Common.{length, map, refl, sym, ap, ◌∙◌, subst, appe
 use Rattle.std.specs.Prelude.{◌&&◌, nat_le, Option, Some, nat_lt, ◌==◌, None}
 use Rattle.std.specs.Bool.{MatchBool, then_some}
 use Rattle.std.specs.List.{list_all, filter, fold, cons_option, find}
-use Rattle.std.proofs.lemmas.Bool.{lt-leb, leb-true, leb-false, and_right, ne_eqb}
+use Rattle.std.proofs.lemmas.Bool.{lt-leb, and_right, ne_eqb}
 use Rattle.dover_model.specs.Common.{JobFacts, IsJob, Event, End, Coming, Fresh, Waiting, Running, Task, Rules}
 use Rattle.dover_model.specs.Common.{Instance, IsValid, having, State, with_later, opening, to_come, is_over, is_done}
 use Rattle.dover_model.specs.Common.{is_ready_behind, is_running, is_fresh, is_waiting, value_sum, running, Prints}
@@ -39,7 +39,7 @@ use Rattle.dover_model.proofs.finishes.Finishing.{none_without}
 use Rattle.std.specs.Option.{option_or}
 use Rattle.std.proofs.lemmas.List.Folds.{find-append}
 use Rattle.dover_model.proofs.lists.Tests.{never}
-use Rattle.dover_model.proofs.valid.Dues.{later_due, last_first, last_more}
+use Rattle.dover_model.proofs.valid.Dues.{last_first, last_more}
 use Rattle.dover_model.proofs.valid.ValidParts.{valid_parts}
 use Rattle.dover_model.proofs.valid.JobLimits.{job_limits}
 use Rattle.dover_model.specs.Common.{state_at}

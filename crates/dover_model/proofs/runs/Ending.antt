@@ -1,7 +1,7 @@
 -- The run of a valid instance ends, within the fuel of `run`, and so many steps are printed at most.
 use Rattle.std.proofs.Common.{◌≡◌, ℕ, suc, zero, ◌+◌, ◌-◌, ◌*◌, ◌≤◌, ◌<◌, ◌⊎◌, inl, inr, List, [], ◌∷◌, length, refl}
-use Rattle.std.proofs.Common.{sym, ap, ◌∙◌, subst, Bool, true, false, arith, cond, Option, Some, None, nat_le}
-use Rattle.std.proofs.Common.{MatchBool, fold, sum_by, filter, leb-true, leb-false}
+use Rattle.std.proofs.Common.{sym, ap, ◌∙◌, subst, Bool, true, false, arith, Option, Some, None}
+use Rattle.std.proofs.Common.{MatchBool, sum_by, filter}
 use Rattle.std.specs.Bool.{then_some}
 use Rattle.std.specs.List.{AllByRecursion, list_all, cons_option}
 use Rattle.std.proofs.lemmas.List.Sums.{sum_by-cons}

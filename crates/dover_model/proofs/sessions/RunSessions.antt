@@ -16,7 +16,7 @@ use Rattle.dover_model.proofs.sessions.SessionParts.{early_declarable, FollowsIt
 use Rattle.dover_model.proofs.lists.Members.{found, some_same}
 use Rattle.dover_model.proofs.steps.Roles.{passes, is_running_role}
 use Rattle.dover_model.proofs.steps.Moves.{active_slack}
-use Rattle.dover_model.proofs.steps.Kept.{open_deed, step_kept, opening_keeps, realistic}
+use Rattle.dover_model.proofs.steps.Kept.{open_deed, step_kept, opening_keeps}
 use Rattle.dover_model.proofs.steps.Deeds.{Deed, Completed, Arrived}
 use Rattle.dover_model.proofs.finishes.Meeting.{finishing_valid}
 use Rattle.dover_model.proofs.runs.Ending.{later_clock, end_over, run_is_whole, few_printed}
@@ -31,7 +31,6 @@ use Rattle.dover_model.proofs.finishes.EarlyEnds.{right_there}
 use Rattle.dover_model.proofs.runs.Ending.{due_by}
 use Rattle.dover_model.proofs.valid.Limiting.{items_enough}
 use Rattle.dover_model.proofs.valid.ValidParts.{valid_parts}
-use Rattle.dover_model.proofs.valid.JobLimits.{job_limits}
 
 module _ (J : Instance) (valid : IsValid J) where
   -- ---- each item may stand

@@ -1,10 +1,10 @@
 -- The numbers of a valid session's trace have numerals.
 use Rattle.std.proofs.Common.{◌≡◌, ℕ, zero, suc, ◌+◌, ◌-◌, ◌^◌, ◌≤◌, ◌<◌, ◌⊎◌, inl, inr, max, List, [], ◌∷◌, ◌++◌}
 use Rattle.std.proofs.Common.{length, map, take, drop, refl, sym, ap, ◌∙◌, subst, Bool, true, false, cond, arith}
-use Rattle.std.proofs.Common.{nat_le, MatchBool, fold, filter, append-nil}
+use Rattle.std.proofs.Common.{MatchBool, filter, append-nil}
 use Rattle.std.specs.Bool.{then_some}
 use Rattle.std.specs.List.{AllByRecursion, list_all, cons_option}
-use Rattle.dover_model.specs.Common.{last_tick_in, JobFacts, IsJob, job_numbers, AreShort, Event, End, Task, Fraction}
+use Rattle.dover_model.specs.Common.{last_tick_in, IsJob, job_numbers, AreShort, Event, End, Task, Fraction}
 use Rattle.dover_model.specs.Common.{Rules, Declaration, Instance, IsValid, total_value, State, opening, is_over}
 use Rattle.dover_model.specs.Common.{is_done, value_sum, Move, Prints, Waits, Ticks, step, after, ending, ◌or_else◌}
 use Rattle.dover_model.specs.Common.{Step, is_end, event_of, printed_of, printed, run, last_deadline, IsWholeRun, Item}
@@ -13,7 +13,6 @@ use Rattle.dover_model.specs.Common.{RefusedLine, RefusedJob, RefusedDone, sessi
 use Rattle.dover_model.specs.Common.{Placed, put_in, places_after, places_of, IsMember, Keeps, step_numbers}
 use Rattle.dover_model.specs.Common.{refused_numbers}
 use Rattle.dover_model.proofs.lists.Members.{all_each, sum_filter, sum_le, sum_map, cond_le}
-use Rattle.dover_model.proofs.valid.Valid.{all_from}
 use Rattle.dover_model.proofs.steps.Ticking.{Quiet}
 use Rattle.dover_model.proofs.steps.Deeds.{Deed, Completed, Resumed, Started, Began, Preempted, Stayed, Arrived, Taken}
 use Rattle.dover_model.proofs.steps.Deeds.{Abandoned, Rested, tick_quiet, over_rests}

@@ -1,5 +1,5 @@
 -- The last deadline of jobs.
-use Rattle.std.proofs.Common.{◌≡◌, ℕ, ◌≤◌, ◌<◌, List, [], ◌∷◌, ◌++◌, refl, sym, ap, ◌∙◌, subst, Bool, true, false, cond}
+use Rattle.std.proofs.Common.{◌≡◌, ℕ, ◌≤◌, ◌<◌, List, [], ◌∷◌, ◌++◌, refl, sym, subst, Bool, true, false, cond}
 use Rattle.std.proofs.Common.{arith, nat_le, fold, leb-true, leb-false}
 use Rattle.std.specs.List.{AllByRecursion}
 use Rattle.dover_model.specs.Common.{JobFacts, last_deadline}
