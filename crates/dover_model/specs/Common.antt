@@ -15,14 +15,16 @@ pub use Rattle.dover_model.specs.declared.factors.Factor.{Factor}
 pub use Rattle.dover_model.specs.declared.horizon.Horizon.{Horizon}
 pub use Rattle.dover_model.specs.declared.horizon.Horizon.TheVariants.{Mark}
 pub use Rattle.dover_model.specs.declared.pieces.Piece.{Piece}
-pub use Rattle.dover_model.specs.Limits.{idle, last_tick, last_tick_in, most_items, most_jobs, most_lines, most_p, most_q}
+pub use Rattle.dover_model.specs.Limits.{idle, last_tick, last_tick_in, most_items, most_jobs, most_lines, most_p}
+pub use Rattle.dover_model.specs.Limits.{most_q}
 pub use Rattle.dover_model.specs.Limits.{most_ready, most_total, most_value, most_work}
 pub use Rattle.dover_model.specs.JobFacts.{is_job, IsJob, job_numbers, job_of_numbers, JobFacts}
 pub use Rattle.dover_model.specs.Fraction.{factor_numbers, Fraction, fraction, is_ratio, is_some_factor, IsRatio}
 pub use Rattle.dover_model.specs.Fraction.{ratio_with, with_factor}
 pub use Rattle.dover_model.specs.Finishes.{AreDueAlike, Finish, goes_on, has_come_to, is_due, is_finish_of, need}
 pub use Rattle.dover_model.specs.Instance.{bare, Declaration, declared_by, finishing, having, Instance, is_valid}
-pub use Rattle.dover_model.specs.Instance.{is_within_ratio, IsInOrder, IsListable, IsValid, jobs_under, last_deadline, Rules}
+pub use Rattle.dover_model.specs.Instance.{is_within_ratio, IsInOrder, IsListable, IsValid, jobs_under, last_deadline}
+pub use Rattle.dover_model.specs.Instance.{Rules}
 pub use Rattle.dover_model.specs.Instance.{total_value, under, with_finishes, with_jobs}
 pub use Rattle.dover_model.specs.Schedules.{earned, is_served, Meets, numbered, ticks_given, worth}
 pub use Rattle.dover_model.specs.State.{demand_by, demand_up_to, held, is_coming, is_done, is_fresh, is_held}

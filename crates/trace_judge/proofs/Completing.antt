@@ -6,7 +6,8 @@ use Rattle.std.proofs.lemmas.Bool.{false_from_ne_true}
 use Rattle.std.proofs.lemmas.List.Elements.{filter_map-append}
 use Rattle.ready_jobs.proofs.Courses.{follows_count}
 use Rattle.waiting_pool.proofs.Reordering.{as_many}
-use Rattle.dover_model.specs.Common.{is_ready, Instance, with_finishes, last_tick_in, most_items, IsMember, State, running}
+use Rattle.dover_model.specs.Common.{is_ready, Instance, with_finishes, last_tick_in, most_items, IsMember, State}
+use Rattle.dover_model.specs.Common.{running}
 use Rattle.dover_model.specs.Common.{is_running, is_over, Prints, after, printed_of, settled, settled_state, last_of}
 use Rattle.dover_model.specs.Common.{finish_now, FinishItem, EarlyFinish, Session, instance_of, admitted_jobs}
 use Rattle.dover_model.specs.Common.{with_item, job_of_item, finish_at, early_at, may_finish_early, ready_at, text_of}

@@ -1,7 +1,8 @@
 -- Lines that continue no trace, and lines that continue one have a form.
 use Rattle.std.proofs.Common.{Option, ◌≡◌, ℕ, ◌+◌, ◌≤◌, ◌<◌, ◌⊎◌, inl, inr, List, [], ◌∷◌, ◌++◌, length, sym, ap, ◌∙◌}
 use Rattle.std.proofs.Common.{subst, true, false, cond, arith}
-use Rattle.dover_model.specs.Common.{last_tick, IsRatio, Declaration, State, Session, RefusedLine, RefusedJob, RefusedDone}
+use Rattle.dover_model.specs.Common.{last_tick, IsRatio, Declaration, State, Session, RefusedLine, RefusedJob}
+use Rattle.dover_model.specs.Common.{RefusedDone}
 use Rattle.dover_model.specs.Common.{instance_of, admitted_jobs, IsDeclarable, Finish, settled_state, Keeps, header}
 use Rattle.dover_model.specs.Common.{text_of, refused_text, item_of, begins_trace, ends_with_end, PrintsNext}
 use Rattle.dover_model.specs.declared.events.Event.{Event}

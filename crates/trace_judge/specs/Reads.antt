@@ -4,7 +4,8 @@ use Rattle.std.specs.Prelude.{Option, Some, None, nat_lt, ◌==◌}
 use Rattle.std.specs.Bool.{then_some}
 use Rattle.std.specs.Option.{option_or}
 use Rattle.admission.specs.Kept as admission
-use Rattle.dover_model.specs.Common.{most_ready, last_tick_in, JobFacts, State, Step, printed, printed_of, completed_value}
+use Rattle.dover_model.specs.Common.{most_ready, last_tick_in, JobFacts, State, Step, printed, printed_of}
+use Rattle.dover_model.specs.Common.{completed_value}
 use Rattle.dover_model.specs.Common.{Item, JobItem, Session, instance_of, admitted_jobs, IsValidSession, EarlyFinish}
 use Rattle.dover_model.specs.Common.{finish_at, may_finish_early, late_refusal, refusal_of, Declaration, text_of}
 use Rattle.dover_model.specs.Common.{last_of, trace_lines, Idles, GoesOn, WaitsUntil}

@@ -249,7 +249,8 @@ module _ (S : Session) (mark lines : ℕ) (holds : Holds S mark lines) where
       (begins_texts S.rules (lines_at S mark) (lines_at T later) begins)))
 
   -- a tick
-  tick_goes : (t : ℕ) → mark ≤ t → t ≤ last_tick_in S.rules.version → GoesOn so_far (account_with (suc lines) (Some S) t Open)
+  tick_goes : (t : ℕ) → mark ≤ t → t ≤ last_tick_in S.rules.version
+      → GoesOn so_far (account_with (suc lines) (Some S) t Open)
   tick_goes t ordered known = (
     record {
       declared = holds.declared;
@@ -495,8 +496,8 @@ module _ (S : Session) (mark lines : ℕ) (holds : Holds S mark lines) where
   -- a done line
   done_line_goes : (t n : ℕ) → AreShort (t ∷ n ∷ [])
       → GoesOn so_far (with_line counted (DoneLine t n) (later_line_cause S mark (DoneLine t n)))
-  done_line_goes t n short = by_tests (may_finish_early S.rules.version) (nat_lt (last_tick_in S.rules.version) t) (is_right S mark t n)
-      refl refl refl where
+  done_line_goes t n short = by_tests (may_finish_early S.rules.version)
+      (nat_lt (last_tick_in S.rules.version) t) (is_right S mark t n) refl refl refl where
         by_early : (o : Option EarlyFinish) → early_at S t n ≡ o → t ≤ last_tick_in S.rules.version
             → (nat_le mark t && is_some o) ≡ true
             → GoesOn so_far (account_with (suc lines) (Some (with_named S (option_map FinishItem o))) t Open)

@@ -5,7 +5,8 @@ use Rattle.std.proofs.Common.{MatchBool, count_by, filter}
 use Rattle.std.proofs.lemmas.List.Sums.{sum_by-cons}
 use Rattle.std.specs.List.{cons_option}
 use Rattle.std.proofs.lemmas.List.Elements.{filter_map-append}
-use Rattle.dover_model.specs.Common.{last_deadline, last_tick_in, most_items, Complete, End, Running, Task, Finish, Instance}
+use Rattle.dover_model.specs.Common.{last_deadline, last_tick_in, most_items, Complete, End, Running, Task, Finish}
+use Rattle.dover_model.specs.Common.{Instance}
 use Rattle.dover_model.specs.Common.{IsValid, declared_by, having, finishing, State, opening, is_coming, is_running}
 use Rattle.dover_model.specs.Common.{is_privileged, is_over, running, left, Move, Prints, Ticks, step, open_step, after}
 use Rattle.dover_model.specs.Common.{Step, is_end, run, printed, printed_of, event_of, step_at, IsWholeRun, is_complete}

@@ -2,7 +2,8 @@
 use Rattle.std.proofs.Common.{◌≡◌, ℕ, ◌^◌, ◌<◌, ◌≤◌, ◌↔◌, List, [], ◌∷◌, ◌++◌, length, max, Option, Some, None, IsTrue}
 use Rattle.std.proofs.Common.{refl, ap, subst, sym, ◌∙◌, Bool, true, false, not, eqb-true, eq-eqb, ◌==◌, ◌&&◌, nat_lt}
 use Rattle.dover_model.proofs.lists.Tests.{never, both, at_most, below, each}
-use Rattle.dover_model.specs.Common.{Refusal, BadJob, Count, Total, Ratio, Late, Full, last_tick_in, most_items, JobFacts}
+use Rattle.dover_model.specs.Common.{Refusal, BadJob, Count, Total, Ratio, Late, Full, last_tick_in, most_items}
+use Rattle.dover_model.specs.Common.{JobFacts}
 use Rattle.dover_model.specs.Common.{job_numbers, AreShort, Declaration, IsValid, Item, JobItem, RefusedItem}
 use Rattle.dover_model.specs.Common.{RefusedJob, Session, instance_of, refuses_lines, refusal_at, early_at, is_right}
 use Rattle.dover_model.specs.Common.{Refused, RefusedLine, RefusedDone, FinishItem, EarlyFinish, may_finish_early}

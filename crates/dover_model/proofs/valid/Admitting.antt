@@ -1,12 +1,14 @@
 -- A job that is admitted keeps the jobs valid.
 use Rattle.std.proofs.Common.{◌≡◌, ℕ, ◌+◌, ◌≤◌, ◌<◌, List, [], ◌∷◌, ◌++◌, length, length-append, refl, Bool, true}
-use Rattle.std.proofs.Common.{false, cond, not, ◌&&◌, arith, Option, Some, None, ap, ◌∙◌, suc, nat_le, nat_lt, leb-false}
+use Rattle.std.proofs.Common.{false, cond, not, ◌&&◌, arith, Option, Some, None, ap, ◌∙◌, suc, nat_le, nat_lt}
+use Rattle.std.proofs.Common.{leb-false}
 use Rattle.std.proofs.Common.{ltb-false, le-leb, leb-true}
 use Rattle.std.specs.List.{AllByRecursion, list_all}
 use Rattle.std.proofs.Math.Nat.{mul-le-mul_right}
 use Rattle.std.proofs.lemmas.Bool.{not-false, lt-leb, and_parts, and_from}
 use Rattle.std.proofs.lemmas.List.Sums.{sum_by-append, sum_by-cons}
-use Rattle.dover_model.specs.Common.{last_deadline, last_tick_in, most_jobs, most_total, Refusal, BadJob, Count, Total, Ratio, JobFacts, IsJob}
+use Rattle.dover_model.specs.Common.{last_deadline, last_tick_in, most_jobs, most_total, Refusal, BadJob, Count, Total}
+use Rattle.dover_model.specs.Common.{Ratio, JobFacts, IsJob}
 use Rattle.dover_model.specs.Common.{is_job, Fraction, Declaration, declared_by, IsValid, with_jobs, Instance}
 use Rattle.dover_model.specs.Common.{total_value, is_within_ratio_both_ways, refusal_of}
 use Rattle.dover_model.proofs.lists.Tests.{both, each}

@@ -1,6 +1,7 @@
 -- The limits of a ratio and of a job, one by one, as facts.
 use Rattle.std.proofs.Common.{◌+◌, ◌≤◌, ◌<◌, ◌↔◌, IsTrue, Some}
-use Rattle.dover_model.specs.Common.{most_p, most_q, last_tick, most_value, most_work, Fraction, IsRatio, is_ratio, is_some_factor}
+use Rattle.dover_model.specs.Common.{most_p, most_q, last_tick, most_value, most_work, Fraction, IsRatio, is_ratio}
+use Rattle.dover_model.specs.Common.{is_some_factor}
 use Rattle.dover_model.specs.Common.{Factor, JobFacts, IsJob, is_job}
 use Rattle.dover_model.specs.Fraction.{is_factor}
 use Rattle.dover_model.proofs.lists.Tests.{both, at_most, below}

@@ -1,7 +1,8 @@
 -- The limits of each version, beside those of version Three.
 use Rattle.std.proofs.Common.{◌≡◌, ◌+◌, ◌*◌, ◌≤◌, refl, sym, arith, false, Option, Some, None}
 use Rattle.dover_model.specs.Common.{Instance, IsListable, IsValid, most_items, most_jobs, most_lines, most_total}
-use Rattle.dover_model.specs.Common.{last_deadline, last_tick, last_tick_in, Version, One, Two, Three, Session, may_finish_early, most_lines_in}
+use Rattle.dover_model.specs.Common.{last_deadline, last_tick, last_tick_in, Version, One, Two, Three, Session}
+use Rattle.dover_model.specs.Common.{may_finish_early, most_lines_in}
 use Rattle.dover_model.proofs.lists.Tests.{never}
 use Rattle.dover_model.proofs.valid.ValidParts.{valid_parts}
 use Rattle.dover_model.specs.declared.events.Version.TheVariants.{Four}

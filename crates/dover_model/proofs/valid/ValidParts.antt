@@ -1,7 +1,8 @@
 -- The parts of valid jobs: what their tests say of each job and of each two, as facts.
 use Rattle.std.proofs.Common.{◌*◌, ◌≤◌, ◌↔◌, List, [], ◌∷◌, length, IsTrue, refl}
 use Rattle.std.specs.List.{AllByRecursion}
-use Rattle.dover_model.specs.Common.{last_deadline, last_tick_in, most_jobs, most_total, JobFacts, IsJob, Fraction, IsRatio, Instance, IsInOrder}
+use Rattle.dover_model.specs.Common.{last_deadline, last_tick_in, most_jobs, most_total, JobFacts, IsJob, Fraction}
+use Rattle.dover_model.specs.Common.{IsRatio, Instance, IsInOrder}
 use Rattle.dover_model.specs.Common.{IsValid, is_valid, is_within_ratio, total_value}
 use Rattle.dover_model.specs.Instance.{is_in_order}
 use Rattle.dover_model.proofs.lists.Tests.{both, at_most, each}
