@@ -5,11 +5,11 @@ use Rattle.std.proofs.Common.{max, ◌||◌, fold, count_by, option_map, lt-ltb,
 use Rattle.std.specs.Option.{option_map_or}
 use Rattle.std.proofs.lemmas.List.Elements.{filter_map-append}
 use Rattle.std.proofs.lemmas.List.Sums.{sum_by-append}
-use Rattle.dover_model.specs.Common.{most_lines, last_tick_in, JobFacts, Session, Item, JobItem, RefusedItem, FinishItem}
-use Rattle.dover_model.specs.Common.{Refused, EarlyFinish, refused_at, refused_done_at, with_item, with_named, early_at}
-use Rattle.dover_model.specs.Common.{is_right, refusal_in, refused_mark, late_refusal, may_finish_early, admitted_jobs}
-use Rattle.dover_model.specs.Common.{job_of_item, refuses_lines, FeedLine, JobLine, TickLine}
-use Rattle.dover_model.specs.Common.{DoneLine, feed_line, Account, Standing, Lines, Line, is_open, next_line}
+use Rattle.dover_model.specs.Common.{most_lines, last_tick_in, JobFacts, Session, Item, JobItem, RefusedItem}
+use Rattle.dover_model.specs.Common.{FinishItem, Refused, EarlyFinish, refused_at, refused_done_at, with_item}
+use Rattle.dover_model.specs.Common.{with_named, early_at, is_right, refusal_in, refused_mark, late_refusal}
+use Rattle.dover_model.specs.Common.{may_finish_early, admitted_jobs, job_of_item, refuses_lines, FeedLine, JobLine}
+use Rattle.dover_model.specs.Common.{TickLine, DoneLine, feed_line, Account, Standing, Lines, Line, is_open, next_line}
 use Rattle.dover_model.specs.Common.{read_line, with_line, with_fault, with_refused_at, later_line_cause, late_cause}
 use Rattle.dover_model.specs.Common.{Order, NotAdmitted, NotDone, account}
 use Rattle.dover_model.specs.declared.events.Refusal.{Refusal}
@@ -104,7 +104,8 @@ module _ (lines : ℕ) (S : Session) (mark : ℕ) (standing : Standing) where
     by_right false = one (refused_done_at (max mark t) t m)
 
     by_version : (b : Bool) → BeginsWith S.items (with_line at (DoneLine t m) (cond b
-        (cond (nat_lt (last_tick_in S.rules.version) t) (Some Order) (cond (is_right S mark t m) None (Some NotDone))) (Some Line)))
+        (cond (nat_lt (last_tick_in S.rules.version) t) (Some Order)
+        (cond (is_right S mark t m) None (Some NotDone))) (Some Line)))
     by_version true = elim (nat_lt (last_tick_in S.rules.version) t) as (λ b. BeginsWith S.items
         (with_line at (DoneLine t m) (cond b (Some Order) (cond (is_right S mark t m) None (Some NotDone))))) [
           | true ↦ none

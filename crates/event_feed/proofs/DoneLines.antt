@@ -89,7 +89,8 @@ module _ (lines : ℕ) (S : Session) (mark t n : ℕ) where
   module _ (may : may_finish_early S.rules.version ≡ true) where
     -- its cause
     done_cause : cause_of before (DoneLine t n) ≡ cond (nat_lt (last_tick_in S.rules.version) t) (Some Order) by_finish
-    done_cause = ap (λ b. cond b (cond (nat_lt (last_tick_in S.rules.version) t) (Some Order) by_finish) (Some Line)) may
+    done_cause = ap (λ b. cond b (cond (nat_lt (last_tick_in S.rules.version) t) (Some Order) by_finish) (Some Line))
+        may
 
     module _ (known : t ≤ last_tick_in S.rules.version) where
       -- the account with the line

@@ -4,10 +4,10 @@ use Rattle.std.proofs.Common.{true}
 use Rattle.std.proofs.Common.{[], ◌∷◌, nat_lt, option_map, le-ltb}
 use Rattle.dover_model.specs.declared.events.Version.{Version}
 use Rattle.dover_model.specs.declared.events.Version.TheVariants.{One, Two, Three, Four}
-use Rattle.dover_model.specs.Common.{last_tick, last_tick_in, most_lines, JobFacts, IsJob, job_numbers, Fraction, IsRatio, fraction}
-use Rattle.dover_model.specs.Common.{with_factor, Declaration, version_number, AreShort, Session, new_session}
-use Rattle.dover_model.specs.Common.{IsDeclarable, FeedLine, RatioLine, FactorLine, TickLine, HasNumerals, feed_line}
-use Rattle.dover_model.specs.Common.{feed_text, Account, Lines, Declared, Order, rules_with, declared_rules}
+use Rattle.dover_model.specs.Common.{last_tick, last_tick_in, most_lines, JobFacts, IsJob, job_numbers, Fraction}
+use Rattle.dover_model.specs.Common.{IsRatio, fraction, with_factor, Declaration, version_number, AreShort, Session}
+use Rattle.dover_model.specs.Common.{new_session, IsDeclarable, FeedLine, RatioLine, FactorLine, TickLine, HasNumerals}
+use Rattle.dover_model.specs.Common.{feed_line, feed_text, Account, Lines, Declared, Order, rules_with, declared_rules}
 use Rattle.dover_model.specs.Common.{factor_rules, with_line, with_fault, next_line, no_lines}
 use Rattle.dover_model.specs.Session.{takes_factors}
 use Rattle.dover_model.specs.declared.factors.Factor.{Factor}
@@ -128,4 +128,5 @@ tick_account lines S mark tick ordered known few =
     ∙ ap (after_form a) read
     ∙ ap (λ b. with_line a (TickLine tick) (cond (b || nat_lt (last_tick_in S.rules.version) tick) (Some Order) None))
     (le-ltb tick mark ordered)
-    ∙ ap (λ b. with_line a (TickLine tick) (cond b (Some Order) None)) (le-ltb (last_tick_in S.rules.version) tick known)
+    ∙ ap (λ b. with_line a (TickLine tick) (cond b (Some Order) None))
+    (le-ltb (last_tick_in S.rules.version) tick known)

@@ -43,7 +43,8 @@ one_tick lines S mark known few =
     feed_line-feed_text (TickLine mark) (omega (arith, known, tick_most S.rules.version), tt) in
     ap (λ b. cond b (with_fault a Lines) (after_form a (feed_line (feed_text (TickLine mark))))) (le-ltb _ _ few)
     ∙ ap (after_form a) read
-    ∙ ap (λ b. with_line a (TickLine mark) (cond b (Some Order) None)) (no_cause mark (last_tick_in S.rules.version) known)
+    ∙ ap (λ b. with_line a (TickLine mark) (cond b (Some Order) None))
+    (no_cause mark (last_tick_in S.rules.version) known)
 
 -- so many
 pub ticks : (n lines : ℕ) (S : Session) (mark : ℕ) → mark ≤ last_tick_in S.rules.version

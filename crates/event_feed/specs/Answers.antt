@@ -1,11 +1,11 @@
 -- What the answers to the lines of a feed say of its account.
 use Rattle.std.specs.Prelude.{◌≡◌, ◌≢◌, ℕ, suc, ◌≤◌, ◌⊎◌, List, [], ◌∷◌, length, true, if◌then◌else◌, Option, Some}
 use Rattle.std.specs.Prelude.{None, Result, Ok, Err}
-use Rattle.dover_model.specs.Common.{last_tick_in, AreShort, JobFacts, job_numbers, job_of_numbers, Fraction, refusal_of}
-use Rattle.dover_model.specs.Common.{Session, JobItem, refused_at, with_item, new_session, admitted_jobs, refuses_lines}
-use Rattle.dover_model.specs.Common.{refusal_at, may_finish_early, is_right, Item, instance_of, is_full, refused_mark}
-use Rattle.dover_model.specs.Common.{FeedLine, JobLine, DoneLine, feed_line, Account, Open, Ended, Faulty, rules_with}
-use Rattle.dover_model.specs.Common.{with_fault, account_of_lines, with_good_line}
+use Rattle.dover_model.specs.Common.{last_tick_in, AreShort, JobFacts, job_numbers, job_of_numbers, Fraction}
+use Rattle.dover_model.specs.Common.{refusal_of, Session, JobItem, refused_at, with_item, new_session, admitted_jobs}
+use Rattle.dover_model.specs.Common.{refuses_lines, refusal_at, may_finish_early, is_right, Item, instance_of, is_full}
+use Rattle.dover_model.specs.Common.{refused_mark, FeedLine, JobLine, DoneLine, feed_line, Account, Open, Ended, Faulty}
+use Rattle.dover_model.specs.Common.{rules_with, with_fault, account_of_lines, with_good_line}
 use Rattle.dover_model.specs.declared.events.Version.{Version}
 use Rattle.dover_model.specs.declared.events.Refusal.{Refusal}
 use Rattle.dover_model.specs.declared.events.Refusal.TheVariants.{Full}
