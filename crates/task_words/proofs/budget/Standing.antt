@@ -70,11 +70,13 @@ module _ (k : Fraction) (cost : ℕ) (tasks : List PeriodicTask) where
     period = it.period;
     job = job_from (record {
       work = let some : 1 ≤ task.work = limits.work in omega (arith, some);
+      small = let due = it.due in omega (arith, fits, due);
       window = omega (arith, fits);
       due = limits.due;
       worth = limits.worth;
       modest = limits.modest;
     });
+    due = it.due;
   }
 
   module _ (are : AreTasks 0 k tasks) (fit : FitUpTo (budgeted k cost tasks) (length (budgeted k cost tasks))) where
@@ -89,7 +91,7 @@ module _ (k : Fraction) (cost : ℕ) (tasks : List PeriodicTask) where
     pub modest : AreModest (budgeted k cost tasks)
     modest y less = let limits = job_limits (paid_there y less).job in record {
       value = limits.modest;
-      work = let window = limits.window in let due = limits.due in omega (arith, window, due);
+      work = limits.small;
     }
 
     -- within the ratio of each other they may stand together

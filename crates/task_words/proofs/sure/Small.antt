@@ -32,7 +32,7 @@ stream_there tasks y less = get_or-map stream_of tasks y blank_task blank_stream
 small_task : (task : PeriodicTask) → IsTask 0 task → IsSmall (stream_of task)
 small_task task it =
     let window = (job_limits it.job).window in
-    let due = (job_limits it.job).due in
+    let due = it.due in
     record {
       apart = it.period;
       work = (job_limits it.job).work;

@@ -8,7 +8,8 @@ use Rattle.std.proofs.lemmas.Bool.{cases_lt, cases_eq, lt-ltb, le-ltb}
 use Rattle.std.proofs.lemmas.List.{append-nil, map-append, take_all, take_more, take-append-drop, get_or-set_same}
 use Rattle.std.proofs.lemmas.List.{get_or-set_other, length-set, set-set}
 use Rattle.std.proofs.lemmas.List.Elements.{filter-append}
-use Rattle.dover_model.specs.Common.{JobFacts, IsJob, last_tick, first}
+use Rattle.dover_model.specs.declared.events.Version.TheVariants.{Two}
+use Rattle.dover_model.specs.Common.{JobFacts, IsJob, last_tick_in, first}
 use Rattle.place_heap.specs.Items.{ItemFacts, is_before}
 use Rattle.place_heap.specs.Table.{items_of}
 use Rattle.task_words.specs.tasks.Limits.{IsTask}
@@ -357,7 +358,7 @@ first_more until k tasks old room kept n low = of (cases_eq n k) where
       (kept n (omega (arith, low, apart)))
 
 -- with those of all tasks
-pub stands_first : (tasks : List PeriodicTask) (until : ℕ) (next : List (Option ItemFacts)) → until ≤ last_tick
+pub stands_first : (tasks : List PeriodicTask) (until : ℕ) (next : List (Option ItemFacts)) → until ≤ last_tick_in Two
     → length next ≡ length tasks
     → ((n : ℕ) → n < length tasks → IsNext until n (task_at tasks n) 0 (get_or next n None))
     → StandsBehind (merge tasks until next) []

@@ -5,10 +5,12 @@ use Rattle.std.specs.List.{AllByRecursion}
 use Rattle.std.proofs.Math.Nat.{lt_of_mul-lt-mul_right, mul-le-mul_right}
 use Rattle.std.proofs.lemmas.Grind.{div_ceil_times}
 use Rattle.std.proofs.lemmas.Bool.{and_parts}
-use Rattle.dover_model.specs.Common.{JobFacts, IsJob, Fraction, IsRatio, Declaration, IsValid}
+use Rattle.dover_model.specs.declared.events.Version.TheVariants.{Two}
+use Rattle.dover_model.specs.Common.{last_tick, last_tick_in, JobFacts, IsJob, Fraction, IsRatio, Declaration, IsValid}
 use Rattle.dover_model.proofs.valid.Valid.{all_from}
 use Rattle.dover_model.proofs.lists.Members.{all_append}
-use Rattle.dover_model.proofs.valid.Limiting.{jobs_least, total_least}
+use Rattle.dover_model.proofs.valid.Limiting.{jobs_least, tick_least, total_least}
+use Rattle.dover_model.proofs.valid.Dues.{last_within}
 use Rattle.task_words.specs.tasks.Tasks.{releases, job_at, released_at, jobs_before, count_before, tested_job, unrolled}
 use Rattle.task_words.specs.tasks.Limits.{IsTask, AreTasks, AreWithin, Fits}
 use Rattle.task_words.specs.declared.tasks.task.PeriodicTask.{PeriodicTask}
@@ -114,14 +116,22 @@ job_within until task it tick early is =
     let last : tick ≤ (tested_job until task).release = before_last until tick task it.period early is in
     let window : (tested_job until task).release + task.work ≤ (tested_job until task).release + task.deadline =
     (job_limits it.job).window in
-    let due : (tested_job until task).release + task.deadline ≤ 1_000_000_000_000 = (job_limits it.job).due in
+    let due : (tested_job until task).release + task.deadline ≤ last_tick = (job_limits it.job).due in
     job_from (record {
       work = (job_limits it.job).work;
+      small = (job_limits it.job).small;
       window = omega (arith, window);
       due = omega (arith, last, due);
       worth = (job_limits it.job).worth;
       modest = (job_limits it.job).modest;
     })
+
+-- and due by the last tick of version Two
+due_within : (until : ℕ) (task : PeriodicTask) → IsTask until task
+    → HasEach (λ j. j.deadline ≤ last_tick_in Two) until task
+due_within until task it tick early is =
+    let last : tick ≤ (tested_job until task).release = before_last until tick task it.period early is in
+    let due : (tested_job until task).release + task.deadline ≤ last_tick_in Two = it.due in omega (arith, last, due)
 
 -- ---- all
 
@@ -135,6 +145,13 @@ unrolled_valid until rules tasks ratio are fits =
       ratio = ratio;
       each = all_before IsJob until tasks
           (all_from (IsTask until) (HasEach IsJob until) tasks (λ task it. job_within until task it) are.each);
+      due = omega (
+        arith,
+        last_within (last_tick_in Two) jobs (all_before (λ j. j.deadline ≤ last_tick_in Two) until tasks
+            (all_from (IsTask until) (HasEach (λ j. j.deadline ≤ last_tick_in Two) until) tasks
+            (λ task it. due_within until task it) are.each)),
+        tick_least rules.version,
+      );
       in_order = in_order until tasks;
       count = omega (arith, fits.count, jobs_least rules.version);
       total = omega (arith, fits.total, total_least rules.version);

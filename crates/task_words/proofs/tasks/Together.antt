@@ -40,7 +40,7 @@ tasks_more until k tasks task above are period none =
     (tested_job until task)).1
     (mul-le-mul_right task.work (mul-le-mul_right task.value above)) in
     record {
-      each = all_behind (IsTask until) tasks task are.each (record { period = period; job = it.job });
+      each = all_behind (IsTask until) tasks task are.each (record { period = period; job = it.job; due = it.due });
       few = omega (arith, fewer, length-map tasks (tested_job until), length-append tasks (task ∷ []));
       densities = all_behind (λ a. AllByRecursion (AreWithin until k a) (tasks ++ task ∷ [])) tasks task
           (all_both (λ a. AllByRecursion (AreWithin until k a) tasks) Both

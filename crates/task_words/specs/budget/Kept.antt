@@ -1,6 +1,6 @@
 -- What is known of budgets before their lines are written.
 use Rattle.std.specs.Prelude.{◌≡◌, ◌≤◌, ◌<◌, ℕ, List, length}
-use Rattle.dover_model.specs.Common.{Fraction, last_tick, most_value}
+use Rattle.dover_model.specs.Common.{Fraction, most_value, most_work}
 use Rattle.dover_port.specs.declared.status.Status.{Status}
 use Rattle.dover_port.specs.declared.status.Status.TheVariants.{Refused}
 use Rattle.task_words.specs.declared.tasks.task.PeriodicTask.{PeriodicTask}
@@ -18,7 +18,7 @@ IsUnpaidBy k cost tasks NoMemory = Unit {0}
 -- a task whose numbers leave room for a comparison of densities
 pub record IsModest (task : PeriodicTask) : Type 0 where
   pub value : task.value ≤ most_value
-  pub work : task.work ≤ last_tick
+  pub work : task.work ≤ most_work
 
 abbrev pub AreModest : List PeriodicTask → Type 0
 AreModest tasks = (y : ℕ) → y < length tasks → IsModest (task_at tasks y)

@@ -2,7 +2,7 @@
 use Rattle.std.specs.Prelude.{◌≡◌, ◌<◌, ◌≤◌, ℕ, List, [], ◌∷◌, ◌++◌, length, take, map, true, false, Option, Some}
 use Rattle.std.specs.Prelude.{None, is_some, Result, Ok, Err}
 use Rattle.dover_model.specs.declared.events.Version.TheVariants.{Two}
-use Rattle.dover_model.specs.Common.{last_tick, most_lines, IsRatio, Declaration as Rules, lines_of, rest_of}
+use Rattle.dover_model.specs.Common.{last_tick_in, most_lines, IsRatio, Declaration as Rules, lines_of, rest_of}
 use Rattle.dover_model.specs.Common.{is_too_long, Open, Ended, Faulty, rules_with, IsDeclarable}
 use Rattle.admission.specs.Kept as admission
 use Rattle.event_feed.specs.Kept.{cause_of_fault}
@@ -24,7 +24,7 @@ use Rattle.task_words.specs.declared.reading.reader.TaskReader.{TaskReader}
 
 -- a tick up to which tasks may release jobs
 abbrev pub IsKnown : ℕ → Type 0
-IsKnown until = until ≤ last_tick
+IsKnown until = until ≤ last_tick_in Two
 
 -- a line that declares these rules, or nothing
 abbrev pub Declares : TaskLine → Option Rules → Type 0

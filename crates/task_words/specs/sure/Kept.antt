@@ -2,7 +2,8 @@
 use Rattle.std.specs.Prelude.{◌≡◌, ◌≢◌, ℕ, ◌+◌, ◌*◌, ◌≤◌, ◌<◌, List, [], ◌∷◌, ◌++◌, drop, length, replicate}
 use Rattle.std.specs.Prelude.{if◌then◌else◌, ◌==◌, codes}
 use Rattle.std.specs.List.{sum_by, enumerate_from}
-use Rattle.dover_model.specs.Common.{last_tick, most_value, with_numbers, Stream, stream_at, most_crossing, others}
+use Rattle.dover_model.specs.declared.events.Version.TheVariants.{Two}
+use Rattle.dover_model.specs.Common.{last_tick_in, most_value, with_numbers, Stream, stream_at, most_crossing, others}
 use Rattle.task_words.specs.declared.sure.densities.Sparse.{Sparse}
 use Rattle.task_words.specs.declared.sure.sums.Sums.{Sums}
 use Rattle.task_words.specs.declared.sure.telling.Told.{Told}
@@ -14,7 +15,7 @@ pub record IsSmall (s : Stream) : Type 0 where
   pub apart : 1 ≤ s.apart
   pub work : 1 ≤ s.work
   pub within : s.work ≤ s.span
-  pub span : s.span ≤ last_tick
+  pub span : s.span ≤ last_tick_in Two
   pub worth : 1 ≤ s.value
   pub value : s.value ≤ most_value
 

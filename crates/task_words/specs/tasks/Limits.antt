@@ -2,8 +2,8 @@
 use Rattle.std.specs.Prelude.{ℕ, ◌*◌, ◌≤◌, List, map, length, ◌==◌, if◌then◌else◌, Option, Some, IsTrue}
 use Rattle.std.specs.List.{AllByRecursion, sum_by}
 use Rattle.dover_model.specs.declared.events.Version.TheVariants.{Two}
-use Rattle.dover_model.specs.Common.{most_jobs, most_total, IsJob, Fraction, Declaration, is_within_ratio, total_value}
-use Rattle.dover_model.specs.Common.{refusal_of}
+use Rattle.dover_model.specs.Common.{last_tick_in, most_jobs, most_total, IsJob, Fraction, Declaration, is_within_ratio}
+use Rattle.dover_model.specs.Common.{total_value, refusal_of}
 use Rattle.dover_model.specs.declared.events.Refusal.{Refusal}
 use Rattle.dover_model.specs.declared.events.Refusal.TheVariants.{BadJob}
 use Rattle.task_words.specs.tasks.Tasks.{jobs_before, count_before, tested_job}
@@ -22,10 +22,11 @@ task_refusal until k tasks task =
     if task.period == 0 then Some BadJob else refusal_of (task_rules k) (map (tested_job until) tasks)
     (tested_job until task)
 
--- a task with a period, whose last job before a tick is within the limits of a job
+-- a task with a period, whose last job before a tick is within the limits of a job in version Two
 pub record IsTask (until : ℕ) (task : PeriodicTask) : Type 0 where
   pub period : 1 ≤ task.period
   pub job : IsJob (tested_job until task)
+  pub due : (tested_job until task).deadline ≤ last_tick_in Two
 
 -- the jobs of both are within the ratio of each other
 abbrev pub AreWithin : (until : ℕ) → Fraction → PeriodicTask → PeriodicTask → Type 0

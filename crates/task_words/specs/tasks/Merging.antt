@@ -1,7 +1,8 @@
 -- The next release of each task, and the jobs that came before.
 use Rattle.std.specs.Prelude.{◌≡◌, ℕ, suc, ◌≤◌, ◌<◌, List, ◌++◌, length, take, get_or, true, false}
 use Rattle.std.specs.Prelude.{Option, Some, None, if◌then◌else◌, nat_lt}
-use Rattle.dover_model.specs.Common.{JobFacts, last_tick}
+use Rattle.dover_model.specs.declared.events.Version.TheVariants.{Two}
+use Rattle.dover_model.specs.Common.{JobFacts, last_tick_in}
 use Rattle.place_heap.specs.Items.{ItemFacts}
 use Rattle.task_words.specs.tasks.Names.{blank_name}
 use Rattle.task_words.specs.tasks.Tasks.{releases, released_at, jobs_before}
@@ -53,7 +54,7 @@ from_tick tick place number = if nat_lt number place then suc tick else tick
 -- The next release of each task is kept, and these jobs came before: those before a tick, and at the tick those of the
 -- first tasks.
 pub record StandsBehind (m : Merge) (done : List JobFacts) : Type 0 where
-  pub limit : m.until ≤ last_tick
+  pub limit : m.until ≤ last_tick_in Two
   pub size : length m.next ≡ length m.tasks
   pub tick : ℕ
   pub place : ℕ

@@ -1,6 +1,7 @@
 //! How often a job of a task gets the processor at most.
 ghost use Rattle.std.specs.Prelude.{◌≡◌, ◌<◌, ◌≤◌, get_or, length};
-ghost use Rattle.dover_model.specs.Limits.{last_tick, most_value};
+ghost use Rattle.dover_model.specs.declared.events.Version.TheVariants.{Two};
+ghost use Rattle.dover_model.specs.Limits.{last_tick_in, most_value};
 ghost use Rattle.task_words.specs.budget.Budgets.{most_gets, most_preempting, most_taking, task_at};
 ghost use Rattle.task_words.specs.sure.Kept.{AreSmall};
 ghost use Rattle.task_words.specs.sure.Streams.{streams_of};
@@ -25,9 +26,9 @@ fn most_preempting(task: &PeriodicTask, other: &PeriodicTask) -> u64
 fn most_taking(task: &PeriodicTask, other: &PeriodicTask, ratio: Ratio) -> u64
     requires period { 1 ≤ other.now.period }
     requires value { other.now.value ≤ most_value }
-    requires deadline { task.now.deadline ≤ last_tick }
+    requires deadline { task.now.deadline ≤ last_tick_in Two }
     requires other { 1 ≤ other.now.deadline }
-    requires late { other.now.deadline ≤ last_tick }
+    requires late { other.now.deadline ≤ last_tick_in Two }
     ensures is { result ≡ most_taking ratio task.now other.now }
     ensures few { result ≤ 2_000_000_000_000 }
 {

@@ -1,6 +1,6 @@
 //! Sets of jobs of other tasks whose work fits the greatest span among them.
 ghost use Rattle.std.specs.Prelude.{◌≡◌, ◌<◌, ◌≤◌, ◌*◌, ◌-◌, ◌+◌, length, ℕ};
-ghost use Rattle.dover_model.specs.Common.{last_tick, most_value, best_of, most_fitting, stream_at};
+ghost use Rattle.dover_model.specs.Common.{most_value, most_work, best_of, most_fitting, stream_at};
 ghost use Rattle.task_words.specs.sure.Kept.{AreSmall, copies, left_from};
 ghost use Rattle.task_words.specs.sure.Streams.{count_beside, streams_of};
 
@@ -33,8 +33,8 @@ fn best_of(tasks: &[PeriodicTask], number: usize, next: usize, left: u64, chosen
     requires small { AreSmall (streams_of tasks.now) }
     requires next { next < length tasks.now }
     requires few { length (left_from (streams_of tasks.now) number next left) ≤ 20 }
-    requires work { chosen.work + length (left_from (streams_of tasks.now) number next left) * last_tick
-        ≤ 20 * last_tick }
+    requires work { chosen.work + length (left_from (streams_of tasks.now) number next left) * most_work
+        ≤ 20 * most_work }
     requires value { chosen.value + length (left_from (streams_of tasks.now) number next left) * most_value
         ≤ 20 * most_value }
     ensures { result ≡ best_of (left_from (streams_of tasks.now) number next left) chosen.work chosen.span

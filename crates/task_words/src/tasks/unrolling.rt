@@ -2,7 +2,7 @@
 ghost use Rattle.std.specs.Prelude.{◌≡◌, ◌≤◌, ◌<◌, ◌^◌, ◌+◌, ◌*◌, ◌∷◌, ◌++◌, ℕ, List, [], None, length, is_some};
 ghost use Rattle.std.specs.Prelude.{slice_index_or, slice_set, IfOk, IfSome, IsNone};
 ghost use Rattle.std.specs.List.{AllByRecursion, count_by};
-ghost use Rattle.dover_model.specs.Common.{JobFacts, last_tick, most_jobs};
+ghost use Rattle.dover_model.specs.Common.{JobFacts, last_tick_in, most_jobs};
 ghost use Rattle.dover_model.specs.declared.events.Version.TheVariants.{Two};
 ghost use Rattle.task_words.specs.tasks.Limits.{IsTask};
 ghost use Rattle.task_words.specs.tasks.Merging.{StandsBehind, kept_release, merge};
@@ -41,8 +41,6 @@ fn keep_release<L: Ledger>(
     until: u64,
     comparisons: &mut Comparisons<L>,
 )
-    requires known { until ≤ last_tick }
-    requires number { number < 2 ^ 20 }
     requires ready { number < length next.old }
     requires none { slice_index_or next.old number None ≡ None }
     ensures keeps { next.new ≡ slice_set next.old number (kept_release until number release) }
@@ -61,7 +59,7 @@ fn first_releases<L: Ledger>(
     comparisons: &mut Comparisons<L>,
 ) -> Result<Heap<ShortRank>, Memory>
     requires few { length tasks.now ≤ most_jobs Two }
-    requires known { until ≤ last_tick }
+    requires known { until ≤ last_tick_in Two }
     ensures stands { IfOk result (λ next. StandsBehind (merge tasks.now until next) []) }
     ensures count { (d : ℕ) → length tasks.now + 1 < 2 ^ d → comparisons.new ≤ comparisons.old + d * length tasks.now }
 {
@@ -114,7 +112,7 @@ impl Unrolling {
     ghost use Rattle.std.specs.List.{AllByRecursion};
     ghost use Rattle.dover_model.specs.JobFacts.{JobFacts};
     ghost use Rattle.dover_model.specs.declared.events.Version.TheVariants.{Two};
-    ghost use Rattle.dover_model.specs.Limits.{last_tick, most_jobs};
+    ghost use Rattle.dover_model.specs.Limits.{last_tick_in, most_jobs};
     ghost use Rattle.task_words.specs.tasks.Limits.{IsTask};
     ghost use Rattle.task_words.specs.tasks.Merging.{StandsBehind};
     ghost use Rattle.task_words.specs.tasks.Tasks.{jobs_before};
@@ -131,7 +129,7 @@ impl Unrolling {
         comparisons: &mut Comparisons<L>,
     ) -> Result<Unrolling, Memory>
         requires few { length tasks.items ≤ most_jobs Two }
-        requires known { until ≤ last_tick }
+        requires known { until ≤ last_tick_in Two }
         ensures stands { IfOk result (λ u. StandsBehind u []) }
         ensures tasks { IfOk result (λ u. u.tasks ≡ tasks.items) }
         ensures until { IfOk result (λ u. u.until ≡ until) }

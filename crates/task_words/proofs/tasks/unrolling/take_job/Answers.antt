@@ -54,12 +54,6 @@ returns-clause-count g c = λ d enough.
       c.keep_release.ensures.count d (omega (arith, enough, size, behind, same)),
     )
 
-pub keep_release-requires-clause-known : goal.keep_release-requires-clause-known
-keep_release-requires-clause-known g c = c.requires.stands.1.limit
-
-pub keep_release-requires-clause-number : goal.keep_release-requires-clause-number
-keep_release-requires-clause-number g c = c.place-number.ensures.small
-
 pub keep_release-requires-clause-none : goal.keep_release-requires-clause-none
 keep_release-requires-clause-none g c =
     ap (λ q. get_or q c.place-number.result None) c.remove.ensures.out
