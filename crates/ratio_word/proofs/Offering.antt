@@ -1,11 +1,13 @@
 -- What a line that offers a job makes of what is kept, and one that passes.
 use Rattle.std.proofs.Common.{◌≡◌, ◌≤◌, ◌<◌, ◌+◌, ℕ, List, [], ◌∷◌, ◌++◌, length, length-append, refl, sym, ap, ◌∙◌}
 use Rattle.std.proofs.Common.{subst, Bool, true, cond, Option, Some, None, Result, Ok, Err, is_some, nat_lt, lt-ltb}
-use Rattle.std.proofs.Common.{le-ltb, arith, ne_eqb, ◌==◌}
+use Rattle.std.proofs.Common.{le-ltb, arith, ne_eqb, ◌==◌, ◌&&◌, false, le-leb, leb-true, nat_le}
+use Rattle.std.proofs.lemmas.Bool.{and_from, and_parts}
 use Rattle.dover_model.specs.declared.events.Refusal.TheVariants as refusal
+use Rattle.dover_model.specs.declared.events.Version.{Version}
 use Rattle.dover_model.specs.declared.events.Version.TheVariants.{Three}
 use Rattle.dover_model.specs.Common.{Declaration as Rules, Faulty, IsJob, JobFacts, Open, is_job, job_of_numbers}
-use Rattle.dover_model.specs.Common.{most_jobs}
+use Rattle.dover_model.specs.Common.{last_tick_in, most_jobs}
 use Rattle.dover_model.specs.Feed as feed
 use Rattle.dover_model.proofs.lists.Members.{by_bool}
 use Rattle.ratio_word.specs.Extremes.{AreExtremes}
@@ -33,13 +35,33 @@ abbrev cause_by : Bool → Bool → Option feed.Cause
 cause_by job few = cond job (cond few None (Some (feed.NotAdmitted refusal.Count)))
     (Some (feed.NotAdmitted refusal.BadJob))
 
-pub too_many : (count : ℕ) (j : JobFacts) → IsJob j → most_jobs Three ≤ count
-    → job_cause count j ≡ Some (feed.NotAdmitted refusal.Count)
-too_many count j job full = ap (λ b. cause_by b (nat_lt count (most_jobs Three))) job.passes
+-- the test of the job alone
+abbrev alone : Version → JobFacts → Bool
+alone version j = is_job j && nat_le j.deadline (last_tick_in version)
+
+passes_alone : (version : Version) (j : JobFacts) → IsJob j → j.deadline ≤ last_tick_in version
+    → alone version j ≡ true
+passes_alone version j job due = and_from (is_job j) (nat_le j.deadline (last_tick_in version)) job.passes
+    (le-leb _ _ due)
+
+pub not_alone : (version : Version) (count : ℕ) (j : JobFacts)
+    → (IsJob j → j.deadline ≤ last_tick_in version → ⊥)
+    → job_cause version count j ≡ Some (feed.NotAdmitted refusal.BadJob)
+not_alone version count j bad = ap (λ b. cause_by b (nat_lt count (most_jobs Three)))
+    (by_bool (alone version j ≡ false) (alone version j) (λ passes.
+      let parts = and_parts (is_job j) (nat_le j.deadline (last_tick_in version)) passes in
+      absurd (bad (record { passes = parts.0 }) (leb-true _ _ parts.1))) (λ fails. fails))
+
+pub too_many : (version : Version) (count : ℕ) (j : JobFacts) → IsJob j → j.deadline ≤ last_tick_in version
+    → most_jobs Three ≤ count → job_cause version count j ≡ Some (feed.NotAdmitted refusal.Count)
+too_many version count j job due full =
+    ap (λ b. cause_by b (nat_lt count (most_jobs Three))) (passes_alone version j job due)
     ∙ ap (cause_by true) (le-ltb count (most_jobs Three) full)
 
-pub fine : (count : ℕ) (j : JobFacts) → IsJob j → count < most_jobs Three → job_cause count j ≡ None
-fine count j job few = ap (λ b. cause_by b (nat_lt count (most_jobs Three))) job.passes
+pub fine : (version : Version) (count : ℕ) (j : JobFacts) → IsJob j → j.deadline ≤ last_tick_in version
+    → count < most_jobs Three → job_cause version count j ≡ None
+fine version count j job due few =
+    ap (λ b. cause_by b (nat_lt count (most_jobs Three))) (passes_alone version j job due)
     ∙ ap (cause_by true) (lt-ltb count (most_jobs Three) few)
 
 -- ---- one job more
@@ -67,7 +89,7 @@ module _ (a : TextAccount) (j : JobFacts) (intake : Intake) (opened : a.standing
   -- where there is a cause, the job wasn't taken
   pub offered_bad : (old : Declaration) → intake.declared ≡ Some old → (c : Cause)
       → ((rules : Rules) (jobs : List JobFacts) → KeepsDeclared old rules jobs
-      → job_cause (length jobs) j ≡ Some (cause_of_fault c))
+      → job_cause rules.version (length jobs) j ≡ Some (cause_of_fault c))
       → (after : Intake) → after.lines ≡ intake.lines
       → StandsAt (progress.Refused c) after (offered (offer_cause a j))
   offered_bad old some c bad after same =
@@ -77,7 +99,7 @@ module _ (a : TextAccount) (j : JobFacts) (intake : Intake) (opened : a.standing
         by_rules None is kept = absurd kept
         by_rules (Some rules) is kept = ap (λ (r : Option Rules). (offered (elim r [
           | None ↦ Some feed.Declared
-          | Some rules ↦ job_cause (length a.jobs) j
+          | Some rules ↦ job_cause rules.version (length a.jobs) j
         ])).standing) is
             ∙ ap (λ o. (offered o).standing) (bad rules a.jobs kept)
             ∙ ap (λ n. Faulty n (cause_of_fault c)) (sym keeps.counted ∙ sym same)
@@ -97,11 +119,11 @@ module _ (a : TextAccount) where
   -- with a period its cause is that of its first job
   task_cause : (task : PeriodicTask) → (task.period ≡ 0 → ⊥) → (o : Option Rules) → elim o [
     | None ↦ Some feed.Declared
-    | Some rules ↦ job_cause (length a.jobs) (first_job task)
+    | Some rules ↦ job_cause rules.version (length a.jobs) (first_job task)
   ] ≡ cause_under o (length a.jobs) (of_task task)
   task_cause task some None = refl
   task_cause task some (Some rules) = sym (ap (λ b. cond b (Some (feed.NotAdmitted refusal.BadJob))
-      (job_cause (length a.jobs) (first_job task))) (ne_eqb _ _ some))
+      (job_cause rules.version (length a.jobs) (first_job task))) (ne_eqb _ _ some))
 
   pub task_offered : (task : PeriodicTask) → (task.period ≡ 0 → ⊥) → (p : Progress) (new : Intake)
       → StandsAt p new (with_offer a (first_job task) (offer_cause a (first_job task)))
@@ -117,7 +139,7 @@ module _ (a : TextAccount) where
 
   job_line_cause : (r c d v : ℕ) (o : Option Rules) → elim o [
     | None ↦ Some feed.Declared
-    | Some rules ↦ job_cause (length a.jobs) (job_of_numbers r c d v)
+    | Some rules ↦ job_cause rules.version (length a.jobs) (job_of_numbers r c d v)
   ] ≡ cause_under o (length a.jobs) (Job r c d v)
   job_line_cause r c d v None = refl
   job_line_cause r c d v (Some rules) = refl
@@ -136,8 +158,8 @@ module _ (a : TextAccount) where
       (no_rules : rules_of line ≡ None) (first : intake.declared ≡ None → p ≡ progress.Refused cause.Declared)
       (later : is_some intake.declared ≡ true → p ≡ then) where
     -- behind the rules it stands so
-    pub passed : (is_some intake.declared ≡ true → StandsAt then intake
-        (with_line a line (later_cause (length a.jobs) line)))
+    pub passed : (is_some intake.declared ≡ true → (version : Version) → StandsAt then intake
+        (with_line a line (later_cause version (length a.jobs) line)))
         → StandsAt p intake (with_line a line (cause_of a line))
     passed stands = by_declared intake.declared refl where
       by_declared : (d : Option Declaration) → intake.declared ≡ d
@@ -148,17 +170,18 @@ module _ (a : TextAccount) where
           let some : is_some intake.declared ≡ true = ap (λ (d : Option Declaration). is_some d) is in
           subst (λ s. StandsAt s intake (with_line a line (cause_of a line))) (sym (later some))
           (subst (λ r. StandsAt then intake (with_line a line (cause_under r (length a.jobs) line)))
-          (sym (declared_before line a intake keeps some).1) (stands some))
+          (sym (declared_before line a intake keeps some).1)
+          (stands some (declared_before line a intake keeps some).0.version))
 
   -- a task with no period
   pub task_bad : (task : PeriodicTask) (intake : Intake) → KeepsAccount intake a → task.period ≡ 0
-      → StandsAt (progress.Refused cause.BadJob) intake
-      (with_line a (of_task task) (later_cause (length a.jobs) (of_task task)))
-  task_bad task intake keeps none = ap (λ b. (with_line a (of_task task)
-      (cond b (Some (feed.NotAdmitted refusal.BadJob)) (job_cause (length a.jobs) (first_job task)))).standing)
+      → (version : Version) → StandsAt (progress.Refused cause.BadJob) intake
+      (with_line a (of_task task) (later_cause version (length a.jobs) (of_task task)))
+  task_bad task intake keeps none version = ap (λ b. (with_line a (of_task task)
+      (cond b (Some (feed.NotAdmitted refusal.BadJob)) (job_cause version (length a.jobs) (first_job task)))).standing)
       (ap (λ n. n == 0) none) ∙ ap (λ n. Faulty n (feed.NotAdmitted refusal.BadJob)) (sym keeps.counted)
 
   -- the end
-  pub ends : (intake : Intake) → KeepsAccount intake a → is_some intake.declared ≡ true
-      → StandsAt progress.Ended intake (with_line a (Plain End) (later_cause (length a.jobs) (Plain End)))
-  ends intake keeps some = (refl, record { counted = keeps.counted; rules = keeps.rules }, some)
+  pub ends : (intake : Intake) → KeepsAccount intake a → is_some intake.declared ≡ true → (version : Version)
+      → StandsAt progress.Ended intake (with_line a (Plain End) (later_cause version (length a.jobs) (Plain End)))
+  ends intake keeps some version = (refl, record { counted = keeps.counted; rules = keeps.rules }, some)

@@ -74,7 +74,7 @@ module _ (jobs : List JobFacts) (e : Extremes) (it : AreExtremes jobs e) where
     size =
         let most : densest.value * least.work ≤ 1_000_000_000 * 1_000_000_000_000 =
         mul-le densest.value least.work 1_000_000_000 1_000_000_000_000 densest_limits.modest
-        (omega (arith, least_limits.window, least_limits.due)) in omega (arith, most);
+        least_limits.small in omega (arith, most);
     enough = all_of_two;
     needed = λ k ratio keep. two_of_all k keep;
   }

@@ -1,10 +1,11 @@
 -- What a feed or a task text says to the word `ratio`, line by line: whatever its ratio is, and in whatever order.
-use Rattle.std.specs.Prelude.{ℕ, suc, List, [], ◌∷◌, ◌++◌, length, Bool, true, false, nat_lt, ◌==◌, if◌then◌else◌}
-use Rattle.std.specs.Prelude.{Option, Some, None, is_some, fold}
+use Rattle.std.specs.Prelude.{ℕ, suc, List, [], ◌∷◌, ◌++◌, length, Bool, true, false, ◌&&◌, nat_le, nat_lt, ◌==◌}
+use Rattle.std.specs.Prelude.{if◌then◌else◌, Option, Some, None, is_some, fold}
 use Rattle.dover_model.specs.declared.events.Refusal.TheVariants.{BadJob, Count}
+use Rattle.dover_model.specs.declared.events.Version.{Version}
 use Rattle.dover_model.specs.declared.events.Version.TheVariants.{Three}
-use Rattle.dover_model.specs.Common.{most_jobs, most_lines, Declaration as Rules, JobFacts, is_job, job_of_numbers}
-use Rattle.dover_model.specs.Common.{lines_of, Cause, Standing, Open, Ended, Faulty, NotAdmitted}
+use Rattle.dover_model.specs.Common.{last_tick_in, most_jobs, most_lines, Declaration as Rules, JobFacts, is_job}
+use Rattle.dover_model.specs.Common.{job_of_numbers, lines_of, Cause, Standing, Open, Ended, Faulty, NotAdmitted}
 use Rattle.dover_model.specs.Feed as feed
 use Rattle.task_words.specs.tasks.Tasks.{job_at}
 use Rattle.task_words.specs.reading.Account.{rules_of_line}
@@ -31,9 +32,9 @@ first_job task = job_at task task.offset
 
 -- ---- the cause of a line
 
--- why a job can't stand behind so many, if it can't
-abbrev pub job_cause : (count : ℕ) → JobFacts → Option Cause
-job_cause count j = if is_job j
+-- why a job can't stand behind so many in this version, if it can't
+abbrev pub job_cause : Version → (count : ℕ) → JobFacts → Option Cause
+job_cause version count j = if is_job j && nat_le j.deadline (last_tick_in version)
     then (if nat_lt count (most_jobs Three) then None else Some (NotAdmitted Count)) else Some (NotAdmitted BadJob)
 
 -- the rules that a line declares, if it may
@@ -42,20 +43,21 @@ rules_of (Plain line) = rules_of_line line
 rules_of (Job release work deadline value) = None
 rules_of Mark = None
 
--- the cause of a line behind the one that declares the rules, and behind so many jobs
-abbrev pub later_cause : (count : ℕ) → TextLine → Option Cause
-later_cause count (Plain (Declared p q version)) = Some feed.Declared
-later_cause count (Plain (Factored p q version b c)) = Some feed.Declared
-later_cause count (Plain (Task task)) =
-    if task.period == 0 then Some (NotAdmitted BadJob) else job_cause count (first_job task)
-later_cause count (Plain End) = None
-later_cause count (Job release work deadline value) = job_cause count (job_of_numbers release work deadline value)
-later_cause count Mark = None
+-- the cause of a line behind the one that declares this version, and behind so many jobs
+abbrev pub later_cause : Version → (count : ℕ) → TextLine → Option Cause
+later_cause version count (Plain (Declared p q number)) = Some feed.Declared
+later_cause version count (Plain (Factored p q number b c)) = Some feed.Declared
+later_cause version count (Plain (Task task)) =
+    if task.period == 0 then Some (NotAdmitted BadJob) else job_cause version count (first_job task)
+later_cause version count (Plain End) = None
+later_cause version count (Job release work deadline value) =
+    job_cause version count (job_of_numbers release work deadline value)
+later_cause version count Mark = None
 
 -- the first cause of a line that has one of the forms: the first line has to declare the rules
 abbrev pub cause_under : Option Rules → (count : ℕ) → TextLine → Option Cause
 cause_under None count line = if is_some (rules_of line) then None else Some feed.Declared
-cause_under (Some rules) count line = later_cause count line
+cause_under (Some rules) count line = later_cause rules.version count line
 
 -- the same in an account
 abbrev pub cause_of : TextAccount → TextLine → Option Cause

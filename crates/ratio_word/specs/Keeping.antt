@@ -49,8 +49,9 @@ StandsAt (progress.Refused cause) intake a = a.standing ≡ feed.Faulty intake.l
 
 -- the job stands behind the others, or this is why it doesn't
 abbrev pub Takes : JobFacts → Rules → List JobFacts → Declaration → Result (Unit {0}) Cause → Type 0
-Takes j rules jobs d (Ok done) = (job_cause (length jobs) j ≡ None) × KeepsDeclared d rules (jobs ++ j ∷ [])
-Takes j rules jobs d (Err cause) = job_cause (length jobs) j ≡ Some (cause_of_fault cause)
+Takes j rules jobs d (Ok done) =
+    (job_cause rules.version (length jobs) j ≡ None) × KeepsDeclared d rules (jobs ++ j ∷ [])
+Takes j rules jobs d (Err cause) = job_cause rules.version (length jobs) j ≡ Some (cause_of_fault cause)
 
 -- a line that declares these rules, or nothing
 abbrev pub Declares : TextLine → Option Rules → Type 0
@@ -63,7 +64,10 @@ Declares Mark declared = ⊥
 
 -- the first cause of a line that offers a job
 abbrev pub offer_cause : TextAccount → JobFacts → Option feed.Cause
-offer_cause a j = elim a.rules [ None ↦ Some feed.Declared | Some rules ↦ job_cause (length a.jobs) j ]
+offer_cause a j = elim a.rules [
+  | None ↦ Some feed.Declared
+  | Some rules ↦ job_cause rules.version (length a.jobs) j
+]
 
 -- the account with such a line
 abbrev pub with_offer : TextAccount → JobFacts → Option feed.Cause → TextAccount

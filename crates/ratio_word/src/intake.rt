@@ -75,6 +75,9 @@ impl Declaration {
         let Some(job) = Job::new(release, work, deadline, value) else {
             return Err(Cause::BadJob);
         };
+        if deadline > self.version.last_tick() {
+            return Err(Cause::BadJob);
+        }
         if self.count >= MOST_JOBS {
             return Err(Cause::Count);
         }

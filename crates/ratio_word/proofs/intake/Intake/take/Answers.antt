@@ -16,4 +16,4 @@ pub returns-in-Mark-clause-stands : goal.returns-in-Mark-clause-stands
 returns-in-Mark-clause-stands c = λ a opened keeps.
     subst (λ l. StandsAt c.pass.result c.args.self.now (with_line a l (cause_of a l))) (sym c.in-Mark.is)
     (passed a c.args.self.now keeps Mark Open c.pass.result refl c.pass.ensures.none c.pass.ensures.some
-    (λ some. (opened, keeps)))
+    (λ some version. (opened, keeps)))

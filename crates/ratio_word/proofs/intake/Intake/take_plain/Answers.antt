@@ -11,4 +11,4 @@ pub returns-in-End-clause-stands : goal.returns-in-End-clause-stands
 returns-in-End-clause-stands c = λ a opened keeps.
     subst (λ l. StandsAt c.pass.result c.args.self.now (with_line a (Plain l) (cause_of a (Plain l)))) (sym c.in-End.is)
     (passed a c.args.self.now keeps (Plain End) Ended c.pass.result refl c.pass.ensures.none c.pass.ensures.some
-    (λ some. ends a c.args.self.now keeps some))
+    (λ some version. ends a c.args.self.now keeps some version))

@@ -10,7 +10,7 @@ pub returns-then-task-eq0-clause-stands : goal.returns-then-task-eq0-clause-stan
 returns-then-task-eq0-clause-stands c = λ a opened keeps.
     passed a c.args.self.now keeps (Plain (Task c.args.task.now)) (Refused BadJob) c.pass.result refl
     c.pass.ensures.none c.pass.ensures.some
-    (λ some. task_bad a c.args.task.now c.args.self.now keeps c.if-task-eq0.true)
+    (λ some version. task_bad a c.args.task.now c.args.self.now keeps c.if-task-eq0.true version)
 
 pub returns-clause-stands : goal.returns-clause-stands
 returns-clause-stands c = λ a opened keeps.
