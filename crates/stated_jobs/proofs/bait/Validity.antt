@@ -5,12 +5,13 @@ use Rattle.std.proofs.lemmas.Nat.{mul-le}
 use Rattle.std.proofs.Math.Nat.{mul-div-le}
 use Rattle.std.proofs.lemmas.List.Sums.{sum_by-cons}
 use Rattle.dover_model.specs.declared.events.Version.TheVariants.{Two}
-use Rattle.dover_model.specs.Common.{most_jobs, most_value, most_total, Fraction, IsRatio, IsJob, IsValid, jobs_under}
-use Rattle.dover_model.specs.Common.{total_value, unit_value, most_light, first_link, chain, last_link, bait_value}
-use Rattle.dover_model.specs.Common.{tight_job, bait_jobs}
+use Rattle.dover_model.specs.Common.{last_tick_in, most_jobs, most_value, most_total, Fraction, IsRatio, IsJob, IsValid}
+use Rattle.dover_model.specs.Common.{jobs_under, total_value, unit_value, most_light, first_link, chain, last_link}
+use Rattle.dover_model.specs.Common.{bait_value, tight_job, bait_jobs}
 use Rattle.dover_model.specs.declared.events.Version.{Version}
 use Rattle.dover_model.proofs.bound.Calculus.{dense_within}
-use Rattle.dover_model.proofs.valid.Limiting.{jobs_least, total_least}
+use Rattle.dover_model.proofs.valid.Limiting.{jobs_least, tick_least, total_least}
+use Rattle.dover_model.proofs.valid.Dues.{last_within}
 use Rattle.stated_jobs.specs.bait.Baiting.{FitsLimits}
 use Rattle.stated_jobs.proofs.bait.Coming.{AreSome, are_some}
 use Rattle.stated_jobs.proofs.bait.Chains.{last_from}
@@ -20,12 +21,12 @@ use Rattle.dover_model.proofs.valid.ValidParts.{IsWithinRatio, valid_from}
 use Rattle.dover_model.proofs.valid.JobLimits.{ratio_limits, job_from}
 
 -- the last link is some, and at most all of them
-last_within : (w : ℕ) (ws : List ℕ) → 1 ≤ w → AreSome ws → (1 ≤ last_from w ws) × (last_from w ws ≤ sum (w ∷ ws))
-last_within w [] some others = (some, level (sum (w ∷ [])) (sum_by-cons (λ x. x) w [])) where
+largest_within : (w : ℕ) (ws : List ℕ) → 1 ≤ w → AreSome ws → (1 ≤ last_from w ws) × (last_from w ws ≤ sum (w ∷ ws))
+largest_within w [] some others = (some, level (sum (w ∷ [])) (sum_by-cons (λ x. x) w [])) where
   level : (all : ℕ) → all ≡ w + 0 → w ≤ all
   level all is = omega arith
-last_within w (x ∷ ws) some others =
-    let more = last_within x ws others.0 others.1 in
+largest_within w (x ∷ ws) some others =
+    let more = largest_within x ws others.0 others.1 in
     (more.0, level (last_from x ws) (sum (x ∷ ws)) (sum (w ∷ (x ∷ ws))) more.1 (sum_by-cons (λ y. y) w (x ∷ ws))) where
       level : (last part all : ℕ) → last ≤ part → all ≡ w + part → last ≤ all
       level last part all low is = omega arith
@@ -34,7 +35,7 @@ pub last_link_within : (k : Fraction) (rounds : ℕ) → 1 ≤ rounds → (1 ≤
     × (last_link k rounds ≤ sum (chain k rounds))
 last_link_within k zero many = absurd (omega (arith, many))
 last_link_within k (suc rounds) many =
-    last_within _ _ (omega arith) (are_some k rounds (suc (most_light k (first_link k))) (omega arith))
+    largest_within _ _ (omega arith) (are_some k rounds (suc (most_light k (first_link k))) (omega arith))
 
 -- the bait is worth something
 pub some_bait : (k : Fraction) (rounds : ℕ) → IsRatio k → 1 ≤ rounds → FitsLimits k rounds → 1 ≤ bait_value k rounds
@@ -51,6 +52,7 @@ tight_is_job : (s w d : ℕ) → s < most_jobs Two → 1 ≤ w → w ≤ most_va
     → IsJob (tight_job s w d)
 tight_is_job s w d early some low worth modest = job_from (record {
   work = some;
+  small = omega (arith, low);
   window = omega arith;
   due = omega (arith, early, low);
   worth = worth;
@@ -124,11 +126,18 @@ module _ (k : Fraction) (rounds : ℕ) (ratio : IsRatio k) (fits : FitsLimits k 
             (omega (arith, few)) in
             omega (arith, is, few, product, modest)
 
+  -- each is due soon
+  soon : AllByRecursion (λ j. j.deadline ≤ last_tick_in Two) (bait_jobs k rounds)
+  soon = all_jobs k rounds (λ j. j.deadline ≤ last_tick_in Two) (small k rounds fits)
+      (λ s w early some low. omega (arith, early, low)) (λ s early. omega (arith, early))
+      (λ s early. omega (arith, early, modest k rounds fits))
+
   pub valid : (version : Version)
       → IsValid (jobs_under version k (bait_jobs k rounds))
   valid version = valid_from (record {
     ratio = ratio;
     each = each_is_job;
+    due = omega (arith, last_within (last_tick_in Two) (bait_jobs k rounds) soon, tick_least version);
     in_order = in_order _ _ _ _ _ _ _ _ _ (whole k rounds);
     count = omega (arith, fits.few, jobs_least version);
     total = omega (arith, total, total_least version);

@@ -149,12 +149,10 @@ next_small whole q work part other x few modest some_part some_q is =
 pub leaving_fits : (part p r q w : ℕ) → part ≤ 1_000_000 → p ≤ 1_000_000 → q ≤ 1_000 → r + w ≤ last_tick
     → Fits w128 (part * (p * r + q * w))
 leaving_fits part p r q w few small_p small_q early =
-    let pr : p * r ≤ 1_000_000 * 1_000_000_000_000 =
-    mul-le p r 1_000_000 1_000_000_000_000 small_p (omega (arith, early)) in
-    let qw : q * w ≤ 1_000 * 1_000_000_000_000 =
-    mul-le q w 1_000 1_000_000_000_000 small_q (omega (arith, early)) in
-    let all : part * (p * r + q * w) ≤ 1_000_000 * 1_001_000_000_000_000_000 =
-    mul-le part (p * r + q * w) 1_000_000 1_001_000_000_000_000_000 few (omega (arith, pr, qw)) in
+    let pr : p * r ≤ 1_000_000 * last_tick = mul-le p r 1_000_000 last_tick small_p (omega (arith, early)) in
+    let qw : q * w ≤ 1_000 * last_tick = mul-le q w 1_000 last_tick small_q (omega (arith, early)) in
+    let all : part * (p * r + q * w) ≤ 1_000_000 * (1_001_000 * last_tick) =
+    mul-le part (p * r + q * w) 1_000_000 (1_001_000 * last_tick) few (omega (arith, pr, qw)) in
     omega (arith, all)
 
 pub root_small : (p q part : ℕ) → p ≤ 1_000_000 → q ≤ 1_000 → part ≤ 1_000_000

@@ -4,7 +4,8 @@ use Rattle.std.proofs.Common.{leb-true}
 use Rattle.std.specs.List.{list_all}
 use Rattle.std.proofs.lemmas.Bool.{and_parts}
 use Rattle.dover_model.specs.declared.events.Version.TheVariants.{One}
-use Rattle.dover_model.specs.Common.{Fraction, IsRatio, JobFacts, is_job, IsJob, total_value, most_jobs, most_total}
+use Rattle.dover_model.specs.Common.{Fraction, IsRatio, JobFacts, is_job, IsJob, last_deadline, last_tick_in}
+use Rattle.dover_model.specs.Common.{total_value, most_jobs, most_total}
 use Rattle.dover_model.proofs.lists.Tests.{each}
 use Rattle.stated_jobs.specs.duel.Game.{Scheduler, IsOnline, ArePlain, AreValid, LosesOnFront}
 use Rattle.stated_jobs.specs.duel.Jobs.{jobs_of_links, first_link, duel_jobs}
@@ -17,9 +18,10 @@ use Rattle.dover_model.proofs.valid.ValidParts.{is_within_ratio-agrees, order_pa
 use Rattle.dover_model.proofs.valid.Valid.{all_from}
 use Rattle.dover_model.proofs.valid.JobLimits.{ratio_limits, job_passes}
 
--- jobs that are few, not worth too much, and each within its limits
+-- jobs that are few, not worth too much, due soon, and each within its limits
 abbrev fits : List JobFacts → Bool
-fits jobs = (nat_le (length jobs) (most_jobs One) && nat_le (total_value jobs) (most_total One)) && list_all is_job jobs
+fits jobs = (nat_le (length jobs) (most_jobs One) && nat_le (total_value jobs) (most_total One))
+    && (nat_le (last_deadline jobs) (last_tick_in One) && list_all is_job jobs)
 
 module _ (k : Fraction) (a b : ℕ) (ratio : IsRatio k) (some_b : 1 ≤ b) where
   valid_links : (more : ℕ) → more ≤ most_jobs One → length (jobs_of_links k a b more (first_link k a b)) ≤ more
@@ -33,9 +35,11 @@ module _ (k : Fraction) (a b : ℕ) (ratio : IsRatio k) (some_b : 1 ≤ b) where
       let here = subst (λ js. ArePlain k js) (sym same) plain in
       let one = and_parts _ _ test in
       let two = and_parts _ _ one.0 in
+      let three = and_parts _ _ one.1 in
       valid_from (record {
         ratio = ratio;
-        each = (each is_job IsJob job_passes (jobs_of_links k a b more (first_link k a b))).0 one.1;
+        each = (each is_job IsJob job_passes (jobs_of_links k a b more (first_link k a b))).0 three.1;
+        due = leb-true _ _ three.0;
         in_order = order_parts here.in_order;
         count = leb-true _ _ two.0;
         total = leb-true _ _ two.1;

@@ -5,10 +5,13 @@ use Rattle.std.proofs.lemmas.Nat.{mul-le}
 use Rattle.std.proofs.Math.Nat.{mul-div-le, le-div_iff_mul-le}
 use Rattle.std.proofs.lemmas.List.Sums.{sum_by-cons}
 use Rattle.dover_model.specs.declared.events.Version.{Version}
-use Rattle.dover_model.specs.Common.{Fraction, IsRatio, JobFacts, IsJob, IsValid, jobs_under, total_value, next_state}
-use Rattle.dover_model.specs.Common.{high_bits, most_density, job_of_draws, generated_jobs_from, generated_jobs}
+use Rattle.dover_model.specs.declared.events.Version.TheVariants.{Two}
+use Rattle.dover_model.specs.Common.{last_tick_in, Fraction, IsRatio, JobFacts, IsJob, IsValid, jobs_under, total_value}
+use Rattle.dover_model.specs.Common.{next_state, high_bits, most_density, job_of_draws, generated_jobs_from}
+use Rattle.dover_model.specs.Common.{generated_jobs}
 use Rattle.dover_model.proofs.bound.Calculus.{dense_within}
-use Rattle.dover_model.proofs.valid.Limiting.{jobs_least, total_least}
+use Rattle.dover_model.proofs.valid.Limiting.{jobs_least, tick_least, total_least}
+use Rattle.dover_model.proofs.valid.Dues.{last_within}
 use Rattle.stated_jobs.specs.trial.Turns.{next_four, next_job}
 use Rattle.dover_model.proofs.valid.ValidParts.{IsWithinRatio, ReleasesInOrder, valid_from}
 use Rattle.dover_model.proofs.valid.JobLimits.{ratio_limits, job_from}
@@ -83,11 +86,16 @@ module _ (k : Fraction) (ratio : IsRatio k) where
   pub is_job : (last r w s d : ℕ) → last ≤ 16_000_000 → IsJob (job_of_draws k last r w s d)
   is_job last r w s d early = job_from (record {
     work = omega arith;
+    small = omega arith;
     window = omega arith;
     due = omega (arith, early);
     worth = value_some d w;
     modest = omega (arith, value_low d w);
   })
+
+  -- it is due soon
+  drawn_due : (last r w s d : ℕ) → last ≤ 16_000_000 → (job_of_draws k last r w s d).deadline ≤ last_tick_in Two
+  drawn_due last r w s d early = omega (arith, early)
 
   -- two drawn jobs are within the ratio
   two_within : (last r w s d last2 r2 w2 s2 d2 : ℕ)
@@ -131,6 +139,12 @@ module _ (k : Fraction) (ratio : IsRatio k) where
   valid seed count version few = valid_from (record {
     ratio = ratio;
     each = all_drawn IsJob is_job count seed 0 (omega (arith, few));
+    due = omega (
+      arith,
+      last_within (last_tick_in Two) (generated_jobs seed count k)
+          (all_drawn (λ j. j.deadline ≤ last_tick_in Two) drawn_due count seed 0 (omega (arith, few))),
+      tick_least version,
+    );
     in_order = in_order count seed 0;
     count = omega (arith, so_many k count seed 0, few, jobs_least version);
     total = omega (arith, total_low count seed 0, few, total_least version);
