@@ -3,7 +3,8 @@ use Rattle.std.specs.Prelude.{ℕ, ◌+◌, ◌-◌, ◌*◌, ◌/◌, min, List
 use Rattle.std.specs.Prelude.{if◌then◌else◌, Option, Some, None}
 use Rattle.dover_model.specs.declared.events.Event.{Event}
 use Rattle.dover_model.specs.declared.pieces.Piece.{Piece}
-use Rattle.dover_model.specs.Common.{JobFacts, Instance, last_tick, printed, completed_value, last_deadline}
+use Rattle.dover_model.specs.Common.{JobFacts, Instance, last_tick_in, printed, completed_value, last_deadline}
+use Rattle.dover_model.specs.declared.events.Version.TheVariants.{Two}
 use Rattle.run_record.specs.intervals.Rows.{rows_of}
 use Rattle.run_record.specs.declared.intervals.interval.Interval.{Interval}
 use Rattle.run_reports.specs.report.Counts.{counts_of, jobs_released}
@@ -157,10 +158,11 @@ drawn most w t seen jobs run pieces rows = if nat_le (shown w seen) most
 abbrev pub whole : List JobFacts → Window
 whole jobs = record { from = 0; until = last_deadline jobs + 1 }
 
--- the window that is asked for, up to the last tick that a job may name, or all of the run
+-- the window that is asked for, up to the last tick of version Two, or all of the run
 abbrev pub window_of : Option Window → List JobFacts → Window
 window_of None jobs = whole jobs
-window_of (Some w) jobs = record { from = min w.from (last_tick + 1); until = min w.until (last_tick + 1) }
+window_of (Some w) jobs =
+    record { from = min w.from (last_tick_in Two + 1); until = min w.until (last_tick_in Two + 1) }
 
 -- the numbers of its title: those of the summary, and how many lines were refused
 abbrev pub totals : Counts → (refused : ℕ) → Totals

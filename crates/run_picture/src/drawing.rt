@@ -15,8 +15,7 @@ use crate::processor::pieces;
 use crate::seen::{Seen, told_by, told_plainly};
 use crate::strip::{Bars, put_numbers, put_pieces};
 use crate::windows::put_windows;
-use dover_model::jobs::LAST_TICK;
-use dover_model::{Job, Memory, PackedEvent, Piece, Ratio};
+use dover_model::{Job, Memory, PackedEvent, Piece, Ratio, Version};
 use run_record::intervals::{Charge, Interval, weights};
 use run_reports::report::{count, fates_of, released};
 use run_reports::views::last_deadline;
@@ -77,7 +76,7 @@ pub fn schedule_picture(
     drawn(alloc, window, &totals, &seen, &jobs, run, &pieces, &rows)
 }
 
-/// The window that is asked for, or all of the run.
+/// The window that is asked for, up to the last tick of version Two, or all of the run.
 fn window_of(asked: Option<Window>, jobs: &[Job]) -> Window
     ensures is { result ≡ pictures.window_of asked jobs.now }
     ensures from { result.from ≤ last_tick + 1 }
@@ -88,8 +87,8 @@ fn window_of(asked: Option<Window>, jobs: &[Job]) -> Window
             until: last_deadline(jobs) + 1,
         },
         Some(window) => Window {
-            from: window.from.min(LAST_TICK + 1),
-            until: window.until.min(LAST_TICK + 1),
+            from: window.from.min(Version::Two.last_tick() + 1),
+            until: window.until.min(Version::Two.last_tick() + 1),
         },
     }
 }
