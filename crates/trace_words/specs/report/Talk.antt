@@ -30,11 +30,11 @@ told form (model.Accepted S) = report_text form (model.refused_count S) (instanc
 told form (model.Wrong line due) = verdict_text (model.Wrong line due)
 told form (model.Short lines) = verdict_text (model.Short lines)
 
--- where the bytes are a trace, its jobs are no more than a report keeps
+-- where the bytes are a trace, its jobs are within what a report keeps
 abbrev pub IsListed : List ℕ → Type 0
 IsListed bytes = (S : Session) → model.verdict bytes ≡ model.Accepted S → IsListable (instance_of S)
 
--- Done with the report on the run of an accepted trace, Refused exactly where its jobs are more than a report keeps,
+-- Done with the report on the run of an accepted trace, Refused exactly where its jobs are beyond what a report keeps,
 -- and No with the line of the verdict
 abbrev pub SaysReport : Form → Says
 SaysReport form Done bytes text = IsTrace bytes × IsListed bytes × (text ≡ told form (model.verdict bytes))

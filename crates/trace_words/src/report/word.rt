@@ -175,7 +175,7 @@ fn put_report<P: Port>(
     }
 }
 
-/// Puts the line that refuses a trace whose jobs are more than a report keeps.
+/// Puts the line that refuses a trace whose jobs are beyond what a report keeps.
 fn put_size<P: Port>(port: &mut P) -> Result<(), Stop>
     ensures puts { Puts result (P.moves port.old) (P.moves port.new) [] size_text }
     ensures cause { StopCause result
@@ -188,8 +188,8 @@ fn put_size<P: Port>(port: &mut P) -> Result<(), Stop>
     }
 }
 
-/// Whether the run of this version that prints these steps has no more jobs than a report keeps. Before version Three
-/// none has more.
+/// Whether the jobs of the run of this version that prints these steps are no more than a report keeps, and due early
+/// enough. Before version Three all are.
 fn is_small(version: Version, steps: &[PackedEvent]) -> bool
     ensures { (J : Instance) → IsValid J → printed J ≡ steps.now → J.rules.version ≡ version →
         IsTrue result ↔ IsListable J }
@@ -200,7 +200,7 @@ fn is_small(version: Version, steps: &[PackedEvent]) -> bool
     true
 }
 
-/// Tells the report where the text is accepted, or that its jobs are too many for one, and else the line of the
+/// Tells the report where the text is accepted, or that its jobs are beyond what one keeps, and else the line of the
 /// verdict.
 #[derive(Drop)]
 struct Reporting {

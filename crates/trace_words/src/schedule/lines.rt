@@ -94,7 +94,8 @@ fn put_table<P: Port>(
     out: &mut Output,
     steps: Vec<PackedEvent>,
 ) -> Result<(), Stop>
-    requires { out.old ≡ [] }
+    requires empty { out.old ≡ [] }
+    requires few { length steps.items ≤ 5_000_001 }
     ensures puts { Puts result (P.moves port.old) (P.moves port.new) out.new (schedule_table steps.items) }
     ensures cause { StopCause result
         (P.write_faults port.old) (P.write_faults port.new) (P.read_faults port.old) (P.read_faults port.new) }
