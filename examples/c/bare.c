@@ -5,9 +5,9 @@
    Built with -ffreestanding -nostdlib -static. */
 #include "dover.h"
 
-/* As many jobs may be open, and so much memory is enough for them: 116 bytes for each, and a little more. In version 4
-   it would be 152. */
-enum { CAPACITY = 100, ARENA = 12288, STEP = 16 };
+/* As many jobs may be open, and so much memory is enough for them: 148 bytes for each, and a little more. In version 4
+   it would be 200. */
+enum { CAPACITY = 100, ARENA = 16384, STEP = 16 };
 static _Alignas(STEP) unsigned char arena[ARENA];
 static size_t used;
 
