@@ -9,6 +9,7 @@ use Rattle.dover_model.specs.Common.{instance_of, new_session, with_item, printe
 use Rattle.dover_model.specs.Common.{refused_text, Printed, text_of_line, texts_among, read_line, Account, Standing}
 use Rattle.dover_model.specs.Common.{Open, Ended, Faulty, Cause, rules_with, no_lines, next_line, account_of_lines}
 use Rattle.dover_model.specs.Common.{is_open, due_lines, fault_text, no_jobs, due_by}
+use Rattle.dover_model.proofs.valid.Limiting.{tick_most}
 use Rattle.dover_model.proofs.sessions.Accounts.{Holds, HoldsBy, IsKept, lines_goes, account_with}
 use Rattle.dover_model.proofs.sessions.Emitting.{texts_more, texts_refused}
 use Rattle.dover_model.proofs.sessions.Growing.{settled_later, settled_of_run, refused_instance}
@@ -268,7 +269,7 @@ module _ (a b : Account) (t : ℕ) (kept : IsKept a) (stands : a.standing ≡ Op
     reached = reach_open b tick_stands ∙ ap Mark tick_mark;
     valid = (holds_of a it.session kept stands it.before_is).reads.valid;
     from = Mark a.mark;
-    follows = (it.no_fall, it.known);
+    follows = (it.no_fall, omega (arith, it.known, tick_most it.session.rules.version));
     events = settled (instance_of it.session) a.mark;
     served = open_serves a it.session v fits it.before_is stands;
     left = tick_begins.0;
@@ -355,4 +356,5 @@ module _ (a b : Account) (S : Session) (line : RefusedLine) (kept : IsKept a) (s
 -- the mark has a numeral
 pub mark_short : (a : Account) (S : Session) → IsKept a → a.standing ≡ Open → a.session ≡ Some S
     → a.mark < 10 ^ 18
-mark_short a S kept stands there = omega (arith, (holds_of a S kept stands there).known)
+mark_short a S kept stands there =
+    omega (arith, (holds_of a S kept stands there).known, tick_most S.rules.version)

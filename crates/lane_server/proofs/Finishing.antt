@@ -11,7 +11,8 @@ use Rattle.dover_model.specs.Common.{due_by, Instance, IsValid, with_finishes, S
 use Rattle.dover_model.specs.Common.{EarlyFinish, Refused, RefusedDone, instance_of, with_item, with_named}
 use Rattle.dover_model.specs.Common.{refused_done_at, early_at, finish_at, may_finish_early, settled, header, text_of}
 use Rattle.dover_model.specs.Common.{refused_text, step_numbers, text_of_line, texts_among, places_of, put_in, AreShort}
-use Rattle.dover_model.specs.Common.{Begins, Account, Open, due_lines}
+use Rattle.dover_model.specs.Common.{Begins, Account, Open, due_lines, last_tick}
+use Rattle.dover_model.proofs.valid.Limiting.{tick_most}
 use Rattle.dover_model.proofs.sessions.Accounts.{IsKept}
 use Rattle.dover_model.proofs.lists.Beginnings.{begins_all, begins_onward}
 use Rattle.dover_model.proofs.sessions.Emitting.{texts_more, texts_refused}
@@ -147,9 +148,13 @@ module _ (a b : Account) (t n : ℕ) (kept : IsKept a) (stands : a.standing ≡ 
       ∙ ap (λ ls. ls ++ map text_of done_begins.0) (sym (due_open a it.session it.before_is stands)))
       ∙ append_assoc (due_lines a) (map text_of done_begins.0) (done_lines it.session t n)
 
-  -- the tick has a numeral
+  -- its tick is one
+  tick_there : t ≤ last_tick
+  tick_there = omega (arith, it.known, tick_most it.session.rules.version)
+
+  -- so it has a numeral
   tick_short : t < 10 ^ 18
-  tick_short = omega (arith, it.known)
+  tick_short = omega (arith, tick_there)
 
   -- they are left
   pub done_owes : (v : RosterServer) → Fits a (Some v) → Finishing t n v b done_rest
@@ -160,7 +165,7 @@ module _ (a b : Account) (t n : ℕ) (kept : IsKept a) (stands : a.standing ≡ 
     valid = done_reads.valid;
     numerals = (tick_short, (tick_short, it.numerals));
     from = Mark a.mark;
-    follows = (later, it.known);
+    follows = (later, tick_there);
     events = settled (instance_of it.session) a.mark;
     served = open_serves a it.session v fits it.before_is stands;
     left = done_begins.0;

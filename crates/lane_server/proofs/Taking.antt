@@ -7,6 +7,7 @@ use Rattle.dover_model.specs.Common.{JobFacts, job_of_numbers, Fraction, Refused
 use Rattle.dover_model.specs.Common.{RefusedDone, Session, new_session, with_item, Account, Open, Ended}
 use Rattle.dover_model.specs.Common.{account_of_lines, is_open, rules_with, due_lines, header, refused_text, Instance}
 use Rattle.dover_model.specs.Common.{no_jobs}
+use Rattle.dover_model.proofs.valid.Limiting.{tick_most}
 use Rattle.dover_model.specs.declared.events.Event.{Event}
 use Rattle.dover_model.specs.declared.horizon.Horizon.{Horizon}
 use Rattle.dover_model.specs.declared.horizon.Horizon.TheVariants.{Mark, End}
@@ -145,7 +146,7 @@ module _ (lane : Lane) (t n : ℕ) (a b : Account) (at : IsOpenAt lane a) (it : 
       ∙ ap (λ S. Some S) (late_session it.session a.mark t n late))
       (RefuseDone lane.mark t n) (
         subst (λ m. m < 10 ^ 18) (sym at.marked) (mark_short a it.session at.kept at.stands it.before_is),
-        (omega (arith, it.known), it.numerals),
+        (omega (arith, it.known, tick_most it.session.rules.version), it.numerals),
       )
       (ap (λ m. refused_text (record { at = m; line = RefusedDone t n })) (sym at.marked)) (λ ls. tt)
 
