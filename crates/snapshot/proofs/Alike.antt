@@ -6,16 +6,16 @@ use Rattle.std.proofs.Common.{nat_lt, nat_le, fold, filter, option_map, ltb-fals
 use Rattle.std.specs.Bool.{then_some}
 use Rattle.std.specs.Option.{option_or}
 use Rattle.std.proofs.lemmas.List.Elements.{filter_map-append}
-use Rattle.dover_model.specs.Common.{last_tick, most_lines, most_ready, is_ready, State, Finish, AreDueAlike, JobFacts}
-use Rattle.dover_model.specs.Common.{Declaration, under, Instance, IsValid, with_jobs, finishing, with_finishes}
-use Rattle.dover_model.specs.Common.{refusal_of, Session, JobItem, RefusedItem, FinishItem, Refused, RefusedJob}
-use Rattle.dover_model.specs.Common.{RefusedDone, EarlyFinish, with_item, with_named, instance_of, job_of_item}
-use Rattle.dover_model.specs.Common.{finish_of_item, admitted_jobs, early_finishes, refuses_lines, may_finish_early}
-use Rattle.dover_model.specs.Common.{early_at, finish_at, is_right, is_full, refusal_in, refused_mark, printed}
-use Rattle.dover_model.specs.Common.{printed_of, settled, settled_state, header, text_of, refused_text, texts_among}
-use Rattle.dover_model.specs.Common.{places_of, put_in, text_of_line, FeedLine, RatioLine, FactorLine, JobLine}
-use Rattle.dover_model.specs.Common.{TickLine, DoneLine, EndLine, feed_line, Cause, Lines, Line, Declared, Order}
-use Rattle.dover_model.specs.Common.{NotAdmitted, Standing, Open, Ended, Faulty, Account, NotDone, late_cause}
+use Rattle.dover_model.specs.Common.{last_tick_in, most_lines, most_ready, is_ready, State, Finish, AreDueAlike}
+use Rattle.dover_model.specs.Common.{JobFacts, Declaration, under, Instance, IsValid, with_jobs, finishing}
+use Rattle.dover_model.specs.Common.{with_finishes, refusal_of, Session, JobItem, RefusedItem, FinishItem, Refused}
+use Rattle.dover_model.specs.Common.{RefusedJob, RefusedDone, EarlyFinish, with_item, with_named, instance_of}
+use Rattle.dover_model.specs.Common.{job_of_item, finish_of_item, admitted_jobs, early_finishes, refuses_lines}
+use Rattle.dover_model.specs.Common.{may_finish_early, early_at, finish_at, is_right, is_full, refusal_in, refused_mark}
+use Rattle.dover_model.specs.Common.{printed, printed_of, settled, settled_state, header, text_of, refused_text}
+use Rattle.dover_model.specs.Common.{texts_among, places_of, put_in, text_of_line, FeedLine, RatioLine, FactorLine}
+use Rattle.dover_model.specs.Common.{JobLine, TickLine, DoneLine, EndLine, feed_line, Cause, Lines, Line, Declared}
+use Rattle.dover_model.specs.Common.{Order, NotAdmitted, Standing, Open, Ended, Faulty, Account, NotDone, late_cause}
 use Rattle.dover_model.specs.Common.{later_line_cause, with_fault, with_refused_at, with_line, next_line, due_lines}
 use Rattle.dover_model.specs.Common.{fault_text, Begins, IsMember, HaveTheSame}
 use Rattle.dover_model.specs.declared.events.Event.{Event}
@@ -428,13 +428,13 @@ module _ (S T : Session) (mark lines : ℕ) (holds : Holds S mark lines) (holds_
       subst (λ o. GoAlike a b (with_line counted_a (DoneLine t n) (later_line_cause S mark (DoneLine t n)))
       (with_line counted_b (DoneLine t n) o)) (sym same_cause)
       (by_version (may_finish_early S.rules.version)) where
-        cause_with : Bool → Option EarlyFinish → Option Cause
-        cause_with early o = cond early
-            (cond (nat_lt last_tick t) (Some Order) (cond (nat_le mark t && is_some o) None (Some NotDone))) (Some Line)
+        cause_with : Version → Option EarlyFinish → Option Cause
+        cause_with version o = cond (may_finish_early version) (cond (nat_lt (last_tick_in version) t) (Some Order)
+            (cond (nat_le mark t && is_some o) None (Some NotDone))) (Some Line)
 
         same_cause : later_line_cause T mark (DoneLine t n) ≡ later_line_cause S mark (DoneLine t n)
-        same_cause = ap (λ (r : Declaration). cause_with (may_finish_early r.version) (early_at T t n)) same.rules
-            ∙ ap (cause_with (may_finish_early S.rules.version)) (early_same t n)
+        same_cause = ap (λ (r : Declaration). cause_with r.version (early_at T t n)) same.rules
+            ∙ ap (cause_with S.rules.version) (early_same t n)
 
         raised : mark ≤ max mark t
         raised = omega arith
@@ -467,11 +467,13 @@ module _ (S T : Session) (mark lines : ℕ) (holds : Holds S mark lines) (holds_
         by_tick false = by_right (nat_le mark t) (is_some (early_at S t n)) refl refl
 
         by_version : (early : Bool)
-            → GoAlike a b (with_line counted_a (DoneLine t n) (cond early (cond (nat_lt last_tick t) (Some Order)
+            → GoAlike a b (with_line counted_a (DoneLine t n) (cond early
+            (cond (nat_lt (last_tick_in S.rules.version) t) (Some Order)
             (cond (is_right S mark t n) None (Some NotDone))) (Some Line)))
-            (with_line counted_b (DoneLine t n) (cond early (cond (nat_lt last_tick t) (Some Order)
+            (with_line counted_b (DoneLine t n) (cond early
+            (cond (nat_lt (last_tick_in S.rules.version) t) (Some Order)
             (cond (is_right S mark t n) None (Some NotDone))) (Some Line)))
-        by_version true = by_tick (nat_lt last_tick t)
+        by_version true = by_tick (nat_lt (last_tick_in S.rules.version) t)
         by_version false = faults_alike Line
 
   -- a line of any form
@@ -481,12 +483,16 @@ module _ (S T : Session) (mark lines : ℕ) (holds : Holds S mark lines) (holds_
   formed_alike (RatioLine p q version) = faults_alike Declared
   formed_alike (FactorLine p q version b c) = faults_alike Declared
   formed_alike (JobLine j) = job_lines_alike j
-  formed_alike (TickLine t) = by_tests (nat_lt t mark) (nat_lt last_tick t) refl where
-    by_tests : (c d : Bool) → nat_lt t mark ≡ c
-        → GoAlike a b (with_line counted_a (TickLine t) (cond (c || d) (Some Order) None))
-        (with_line counted_b (TickLine t) (cond (c || d) (Some Order) None))
-    by_tests false false ordered = ticks_alike t (ltb-false _ _ ordered)
-    by_tests _ _ _ = faults_alike Order
+  formed_alike (TickLine t) = subst (λ (r : Declaration). GoAlike a b
+      (with_line counted_a (TickLine t) (later_line_cause S mark (TickLine t)))
+      (with_line counted_b (TickLine t)
+      (cond (nat_lt t mark || nat_lt (last_tick_in r.version) t) (Some Order) None))) (sym same.rules)
+      (by_tests (nat_lt t mark) (nat_lt (last_tick_in S.rules.version) t) refl) where
+        by_tests : (c d : Bool) → nat_lt t mark ≡ c
+            → GoAlike a b (with_line counted_a (TickLine t) (cond (c || d) (Some Order) None))
+            (with_line counted_b (TickLine t) (cond (c || d) (Some Order) None))
+        by_tests false false ordered = ticks_alike t (ltb-false _ _ ordered)
+        by_tests _ _ _ = faults_alike Order
   formed_alike (DoneLine t n) = done_lines_alike t n
   formed_alike EndLine = ends_alike
 

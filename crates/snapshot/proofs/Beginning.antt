@@ -5,8 +5,8 @@ use Rattle.std.proofs.Common.{nat_le, nat_lt, fold, leb-true, ltb-true, ltb-fals
 use Rattle.std.proofs.lemmas.Bool.{and_parts}
 use Rattle.std.proofs.lemmas.List.Sums.{fold-append}
 use Rattle.dover_model.specs.declared.events.Task.{Task}
-use Rattle.dover_model.specs.Common.{IsRatio, last_tick, most_jobs, most_lines, TickLine, feed_text, Account, next_line}
-use Rattle.dover_model.specs.Common.{no_lines, account_of_lines, JobFacts, Session, with_item, IsDeclarable}
+use Rattle.dover_model.specs.Common.{IsRatio, last_tick_in, most_jobs, most_lines, TickLine, feed_text, Account}
+use Rattle.dover_model.specs.Common.{next_line, no_lines, account_of_lines, JobFacts, Session, with_item, IsDeclarable}
 use Rattle.dover_model.specs.declared.events.Version.TheVariants.{Two}
 use Rattle.event_feed.specs.Answers.{AddsJob, counted, offered_item}
 use Rattle.event_feed.specs.Kept as feed
@@ -58,19 +58,19 @@ module _ (h : Head) (ratio : IsRatio h.rules.ratio) (declared : IsDeclarable h.r
 
 -- what the limits say
 pub record Within (h : Head) : Type 0 where
-  pub mark : h.mark ≤ last_tick
+  pub mark : h.mark ≤ last_tick_in h.rules.version
   pub jobs : h.jobs ≤ most_jobs Two
   pub enough : h.jobs + 1 ≤ h.lines
   pub lines : h.lines ≤ most_lines h.rules.version
 
 pub within : (h : Head) → is_within_limits h ≡ true → Within h
 within h it =
-    let few : Bool = nat_le h.mark last_tick && nat_le h.jobs (most_jobs Two) in
+    let few : Bool = nat_le h.mark (last_tick_in h.rules.version) && nat_le h.jobs (most_jobs Two) in
     let abc = and_parts (few && nat_le (h.jobs + 1) h.lines) _ it in
     let ab = and_parts few _ abc.0 in
-    let a = and_parts (nat_le h.mark last_tick) _ ab.0 in
+    let a = and_parts (nat_le h.mark (last_tick_in h.rules.version)) _ ab.0 in
     record {
-      mark = leb-true h.mark last_tick a.0;
+      mark = leb-true h.mark (last_tick_in h.rules.version) a.0;
       jobs = leb-true h.jobs (most_jobs Two) a.1;
       enough = leb-true (h.jobs + 1) h.lines ab.1;
       lines = leb-true h.lines (most_lines h.rules.version) abc.1;

@@ -6,6 +6,7 @@ use Rattle.std.specs.List.{AllByRecursion}
 use Rattle.std.proofs.lemmas.Bool.{and_parts}
 use Rattle.std.proofs.lemmas.Slice.Eq.{bytes_eq-Decides}
 use Rattle.std.proofs.lemmas.List.{length-map}
+use Rattle.dover_model.proofs.valid.Limiting.{tick_most}
 use Rattle.dover_model.proofs.settled.Barriers.{settled_at_barrier}
 use Rattle.dover_model.proofs.runs.Honest.{count_jobs}
 use Rattle.dover_model.proofs.sessions.JobSessions.{jobs_back}
@@ -90,7 +91,10 @@ module _ (h : Head) (tasks : List Task) (ls : List (List ℕ)) (read : HasRead h
 
   -- the run may be taken to the mark
   pub mark_follows : (r.last ≤ r.head.mark) × (r.head.mark ≤ last_tick)
-  mark_follows = (omega (arith, it.released, known, mark_is), omega (arith, (within h read.limits).mark, mark_is))
+  mark_follows = (
+    omega (arith, it.released, known, mark_is),
+    omega (arith, (within h read.limits).mark, mark_is, tick_most h.rules.version),
+  )
 
   -- from where it was
   pub run_so_far : HasRunTowards r h tasks r.last

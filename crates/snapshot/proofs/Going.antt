@@ -16,18 +16,22 @@ use Rattle.dover_model.specs.Common.{JobItem, FinishItem, EarlyFinish, mark_afte
 use Rattle.dover_model.specs.Common.{admitted_jobs, early_finishes, refused_of_item, finish_of_item, job_of_item}
 use Rattle.dover_model.specs.Common.{finish_at, may_finish_early, settled, settled_state, finish_now, RunsAtMark}
 use Rattle.dover_model.specs.Common.{IsMember, Each, IsNumberedFrom, jobs_of, State, running, is_running, is_over}
-use Rattle.dover_model.specs.Common.{with_later, to_come, Prints, after, HasPrinted, last_tick, most_ready}
+use Rattle.dover_model.specs.Common.{with_later, to_come, Prints, after, HasPrinted, last_deadline, last_tick_in, left}
+use Rattle.dover_model.specs.Common.{is_privileged, most_ready}
 use Rattle.dover_model.proofs.sessions.Accounts.{follows_behind, mark_behind}
 use Rattle.dover_model.proofs.settled.Barriers.{AtBarrier, settled_at_barrier}
 use Rattle.dover_model.proofs.sessions.Fullness.{few_ready}
 use Rattle.dover_model.proofs.finishes.Further.{printed_at_mark}
 use Rattle.dover_model.proofs.sessions.Growing.{finish_instance, job_instance}
 use Rattle.dover_model.proofs.runs.Honest.{count_jobs}
+use Rattle.dover_model.proofs.runs.Ending.{due_by as deadline_by}
+use Rattle.dover_model.proofs.steps.Moves.{active_slack}
 use Rattle.dover_model.proofs.steps.Kept.{come_coming}
 use Rattle.dover_model.proofs.finishes.Meeting.{finishing_valid}
 use Rattle.dover_model.proofs.settled.Paths.{printed_behind}
 use Rattle.dover_model.proofs.rest.Resting.{numbers_below}
 use Rattle.dover_model.proofs.valid.Valid.{valid_front}
+use Rattle.dover_model.proofs.valid.ValidParts.{valid_parts}
 use Rattle.dover_model.proofs.lists.Members.{some_same, found, member_front, member_behind, member_either, each_append}
 use Rattle.dover_model.proofs.lists.Members.{each_behind}
 use Rattle.dover_model.proofs.finishes.OverFor.{due_member}
@@ -351,7 +355,7 @@ module _ (h : Head) (tasks : List Task) (items : List Item) (numbered : IsNumber
 -- ---- with one item more
 
 module _ (h : Head) (tasks : List Task) (items : List Item) (at : ℕ) (handed : IsHandedIn h tasks items)
-    (low : mark_after 0 items ≤ at) (known : at ≤ last_tick) where
+    (low : mark_after 0 items ≤ at) where
   abbrev K : Instance
   K = instance_of (session_with h.rules items)
 
@@ -367,6 +371,19 @@ module _ (h : Head) (tasks : List Task) (items : List Item) (at : ℕ) (handed :
 
     three : may_finish_early h.rules.version ≡ true
     three = (stored_of h.rules.version tasks f stored).0
+
+    -- its tick is one of the version
+    known : at ≤ last_tick_in h.rules.version
+    known =
+        let says : FinishSays K at f.number item = finish_says K at f.number item right in
+        let bar : AtBarrier K at (settled_state K at) = settled_at_barrier K valid at in
+        let it = found is_running (settled_state K at).tasks says.job says.runs in
+        let slack : (settled_state K at).clock + left says.job ≤ says.job.job.deadline =
+        active_slack (settled_state K at) bar.keeps.sound says.job it.0
+        (passes is_privileged says.job Running true (is_running_role says.job it.1) refl) in
+        let due : says.job.job.deadline ≤ last_deadline K.jobs =
+        deadline_by K valid (settled_state K at) bar.keeps says.job it.0 in
+        omega (arith, slack, due, (valid_parts valid).due, bar.clock)
 
     -- it is handed in
     pub handed_finish : IsHandedIn h tasks more

@@ -2,7 +2,7 @@
 use Rattle.std.proofs.Common.{◌≡◌, ℕ, suc, ◌+◌, ◌≤◌, ◌<◌, max, inl, inr, List, [], ◌∷◌, ◌++◌, length, append_assoc}
 use Rattle.std.proofs.Common.{append-nil, refl, sym, ap, ◌∙◌, subst, Bool, true, false, cond, arith, Some, None, nat_lt}
 use Rattle.std.proofs.Common.{is_some, ◌&&◌, fold, option_map, le-ltb, le-leb}
-use Rattle.dover_model.specs.Common.{last_tick, most_lines, JobFacts, IsJob, Finish, Declaration, IsValid, with_jobs}
+use Rattle.dover_model.specs.Common.{last_tick_in, most_lines, JobFacts, IsJob, Finish, Declaration, IsValid, with_jobs}
 use Rattle.dover_model.specs.Common.{refusal_of, refusal_in, Item, JobItem, RefusedItem, FinishItem, Session}
 use Rattle.dover_model.specs.Common.{mark_after, EarlyFinish, admitted_jobs, instance_of, session_with, with_item}
 use Rattle.dover_model.specs.Common.{with_named, may_finish_early, early_at, finish_at, is_right, FeedLine, JobLine}
@@ -15,7 +15,7 @@ use Rattle.dover_model.proofs.texts.FeedLines.{feed_line-feed_text}
 use Rattle.dover_model.proofs.valid.Admitting.{valid_admitted}
 use Rattle.dover_model.proofs.settled.Barriers.{settled_at_barrier}
 use Rattle.dover_model.proofs.sessions.Growing.{job_instance, Finishes, finishing_job}
-use Rattle.dover_model.proofs.valid.Limiting.{jobs_most}
+use Rattle.dover_model.proofs.valid.Limiting.{jobs_most, tick_most}
 use Rattle.dover_model.proofs.lists.Members.{all_last}
 use Rattle.dover_model.proofs.rest.Resting.{numbers_below}
 use Rattle.dover_model.proofs.lists.Tests.{none_is_some}
@@ -55,13 +55,14 @@ module _ (S : Session) (lines mark : ℕ) (few : suc lines ≤ most_lines S.rule
             ∙ ap (λ o. option_map NotAdmitted (option_or o None)) (valid_admitted (instance_of S) j valid)
 
   -- the line of a finish that is right
-  pub finish_item_account : (f : EarlyFinish) → IsValid (instance_of S) → mark ≤ f.at → f.at ≤ last_tick
+  pub finish_item_account : (f : EarlyFinish) → IsValid (instance_of S) → mark ≤ f.at
+      → f.at ≤ last_tick_in S.rules.version
       → early_at S f.at f.finish.number ≡ Some f
       → next_line (open_account lines (Some S) mark) (feed_text (DoneLine f.at f.finish.number))
       ≡ open_account (suc lines) (Some (with_item S (FinishItem f))) f.at
   finish_item_account f valid ordered known right =
       read line (feed_line-feed_text line (
-        omega (arith, known),
+        omega (arith, known, tick_most S.rules.version),
         (
           omega
               (arith, number, (valid_parts valid).count, jobs_most S.rules.version),
@@ -90,11 +91,11 @@ module _ (S : Session) (lines mark : ℕ) (few : suc lines ≤ most_lines S.rule
         three false e = none_is_some e
 
         none : cause_of a line ≡ None
-        none = ap (λ b. cond b (cond (nat_lt last_tick f.at) (Some Order)
+        none = ap (λ b. cond b (cond (nat_lt (last_tick_in S.rules.version) f.at) (Some Order)
             (cond (is_right S mark f.at n) None (Some NotDone))) (Some Line)) (three
             (may_finish_early S.rules.version) right)
             ∙ ap (λ b. cond b (Some Order) (cond (is_right S mark f.at n) None (Some NotDone)))
-            (le-ltb last_tick f.at known)
+            (le-ltb (last_tick_in S.rules.version) f.at known)
             ∙ ap (λ b. cond (b && is_some (early_at S f.at n)) None (Some NotDone)) (le-leb mark f.at ordered)
             ∙ ap (λ o. cond (is_some o) None (Some NotDone)) right
 

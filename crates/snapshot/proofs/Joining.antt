@@ -3,7 +3,7 @@ use Rattle.std.proofs.Common.{◌≡◌, ℕ, ◌+◌, ◌≤◌, List, [], ◌�
 use Rattle.std.specs.List.{AllByRecursion}
 use Rattle.dover_model.specs.declared.events.Event.{Event}
 use Rattle.dover_model.specs.declared.events.Task.{Task}
-use Rattle.dover_model.specs.Common.{JobFacts, Instance, IsValid, with_jobs, last_tick, JobItem, early_finishes}
+use Rattle.dover_model.specs.Common.{JobFacts, Instance, IsValid, with_jobs, JobItem, early_finishes}
 use Rattle.dover_model.specs.Common.{instance_of, session_with, settled, jobs_of}
 use Rattle.dover_model.specs.declared.horizon.Horizon.TheVariants.{Mark}
 use Rattle.dover_model.proofs.sessions.Growing.{all_behind}
@@ -16,7 +16,6 @@ use Rattle.snapshot.specs.Kept.{HasRun, HasRunTowards, MayAdmit}
 use Rattle.snapshot.specs.declared.resuming.Resuming.{Resuming}
 use Rattle.snapshot.proofs.Admitted.{jobs_more}
 use Rattle.snapshot.proofs.Going.{handed_job, job_run, job_mark, job_count, job_to_come}
-use Rattle.snapshot.proofs.Settling.{release_known}
 use Rattle.snapshot.proofs.Spending.{count_served}
 
 -- with room for a job more, the run is where it was
@@ -74,17 +73,17 @@ has_joined h tasks t last r new number job same = subst (Joins h tasks t last r 
         handed,
         run.counted.count,
         job_count h tasks run.items t.job.release run.served.handed
-            run.served.no_later known t valid refl number,
+            run.served.no_later t valid refl number,
       );
-      last = at ∙ sym (job_mark h tasks run.items t.job.release run.served.handed run.served.no_later known t valid
+      last = at ∙ sym (job_mark h tasks run.items t.job.release run.served.handed run.served.no_later t valid
           refl number);
     };
     served = record {
-      handed = handed_job h tasks run.items t.job.release run.served.handed run.served.no_later known t valid refl
+      handed = handed_job h tasks run.items t.job.release run.served.handed run.served.no_later t valid refl
           number may.few;
       no_later = omega (
         arith,
-        job_mark h tasks run.items t.job.release run.served.handed run.served.no_later known t
+        job_mark h tasks run.items t.job.release run.served.handed run.served.no_later t
             valid refl number,
       );
       known = subst (AllByRecursion (λ j. j.release ≤ t.job.release)) (sym (jobs_more tasks t))
@@ -93,15 +92,12 @@ has_joined h tasks t last r new number job same = subst (Joins h tasks t last r 
       events = settled (so_far h tasks t.job.release r run) t.job.release ++ events;
       serves = subst (λ K. Serves new.server K (Mark t.job.release)
           (settled (so_far h tasks t.job.release r run) t.job.release ++ events))
-          (sym (job_run h tasks run.items t.job.release run.served.handed run.served.no_later known t valid refl
+          (sym (job_run h tasks run.items t.job.release run.served.handed run.served.no_later t valid refl
           number)) (serves (so_far h tasks t.job.release r run) run.served.rests valid);
-      to_come = job_to_come h tasks run.items t.job.release run.served.handed run.served.no_later known t valid refl
+      to_come = job_to_come h tasks run.items t.job.release run.served.handed run.served.no_later t valid refl
           number run.served.to_come;
       listed = listed;
     };
   } where
-    known : t.job.release ≤ last_tick
-    known = release_known h tasks last t.job may
-
     valid : IsValid (with_jobs (so_far h tasks t.job.release r run) (t.job ∷ []))
     valid = valid_more h tasks t.job.release r run last t.job may

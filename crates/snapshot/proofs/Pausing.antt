@@ -9,7 +9,7 @@ use Rattle.dover_model.specs.Common.{Instance, in_lines, instance_of, settled, s
 use Rattle.dover_model.proofs.sessions.Accounts.{Holds}
 use Rattle.dover_model.proofs.settled.Barriers.{settled_at_barrier}
 use Rattle.dover_model.proofs.runs.Honest.{count_jobs}
-use Rattle.dover_model.proofs.valid.Limiting.{jobs_most, lines_most}
+use Rattle.dover_model.proofs.valid.Limiting.{jobs_most, lines_most, tick_most}
 use Rattle.dover_model.proofs.lists.Members.{some_same}
 use Rattle.ready_server.specs.Roster.{Roll, ListedJob, job_at, roll_of, Kept, IsRollOf}
 use Rattle.snapshot.specs.Snapshot.{head_line, state_line, snapshot}
@@ -39,7 +39,7 @@ module _ (v : RosterServer) (lines mark : ℕ) (F : List ℕ) (it : IsTakenTo v 
 
   -- its mark is a tick
   pub mark_known : mark ≤ last_tick
-  mark_known = subst (λ m. m ≤ last_tick) (sym it.mark_is) kept.known
+  mark_known = omega (arith, it.mark_is, kept.known, tick_most it.session.rules.version)
 
   -- its jobs as they stand
   jobs_are : map (job_at k.roll mark) k.roll.jobs ≡ (settled_state J mark).tasks

@@ -1,10 +1,10 @@
 -- The mark of a feed that goes on is that behind its items, or there is a line that is no item; and its lines are few.
-use Rattle.dover_model.specs.Common.{fraction, with_factor, last_tick, most_lines, JobFacts, Declaration, Item, Session}
-use Rattle.dover_model.specs.Common.{JobItem, RefusedItem, FinishItem, Refused, RefusedJob, RefusedDone, EarlyFinish}
-use Rattle.dover_model.specs.Common.{mark_after, with_item, with_named, new_session, early_at, is_right, refuses_lines}
-use Rattle.dover_model.specs.Common.{may_finish_early, late_refusal, FeedLine, RatioLine, FactorLine, JobLine, TickLine}
-use Rattle.dover_model.specs.Common.{DoneLine, feed_line, Lines, Line, Declared, Order, NotAdmitted, NotDone}
-use Rattle.dover_model.specs.Common.{Standing, Open, Ended, Faulty, Account, declared_rules, factor_rules}
+use Rattle.dover_model.specs.Common.{fraction, with_factor, last_tick_in, most_lines, JobFacts, Declaration, Item}
+use Rattle.dover_model.specs.Common.{Session, JobItem, RefusedItem, FinishItem, Refused, RefusedJob, RefusedDone}
+use Rattle.dover_model.specs.Common.{EarlyFinish, mark_after, with_item, with_named, new_session, early_at, is_right}
+use Rattle.dover_model.specs.Common.{refuses_lines, may_finish_early, late_refusal, FeedLine, RatioLine, FactorLine}
+use Rattle.dover_model.specs.Common.{JobLine, TickLine, DoneLine, feed_line, Lines, Line, Declared, Order, NotAdmitted}
+use Rattle.dover_model.specs.Common.{NotDone, Standing, Open, Ended, Faulty, Account, declared_rules, factor_rules}
 use Rattle.dover_model.specs.Common.{first_line_cause, late_cause, later_line_cause, with_fault, with_refused_at}
 use Rattle.dover_model.specs.Common.{refusal_in, refused_mark, with_line, next_line, most_lines_in, Cause}
 use Rattle.std.proofs.Common.{◌≡◌, ◌⊎◌, inl, inr, ℕ, suc, ◌+◌, ◌≤◌, ◌<◌, List, [], ◌∷◌, ◌++◌, length, length-append}
@@ -131,14 +131,15 @@ module _ (S : Session) (mark lines : ℕ) (it : Reached S.items mark lines) wher
     by_tick false = by_right (is_right S mark t n)
 
     by_version : (b : Bool) → Reaches (with_line counted (DoneLine t n) (cond b
-        (cond (nat_lt last_tick t) (Some Order) (cond (is_right S mark t n) None (Some NotDone))) (Some Line)))
-    by_version true = by_tick (nat_lt last_tick t)
+        (cond (nat_lt (last_tick_in S.rules.version) t) (Some Order)
+        (cond (is_right S mark t n) None (Some NotDone))) (Some Line)))
+    by_version true = by_tick (nat_lt (last_tick_in S.rules.version) t)
     by_version false = tt
 
   -- a line of any form
   later_reaches : (line : FeedLine) → Reaches (with_line counted line (later_line_cause S mark line))
   later_reaches (JobLine j) = job_line_reaches j
-  later_reaches (TickLine t) = by_tests (nat_lt t mark || nat_lt last_tick t) where
+  later_reaches (TickLine t) = by_tests (nat_lt t mark || nat_lt (last_tick_in S.rules.version) t) where
     by_tests : (b : Bool) → Reaches (with_line counted (TickLine t) (cond b (Some Order) None))
     by_tests true = tt
     by_tests false = tick_reaches t
@@ -241,7 +242,7 @@ module _ (S : Session) (mark lines : ℕ) (few : lines ≤ most_lines S.rules.ve
   -- with a later line
   few_later : (line : FeedLine) → HasFew (with_line so_many line (later_line_cause S mark line))
   few_later (JobLine j) = few_job j (later_line_cause S mark (JobLine j))
-  few_later (TickLine t) = by_tests (nat_lt t mark || nat_lt last_tick t) where
+  few_later (TickLine t) = by_tests (nat_lt t mark || nat_lt (last_tick_in S.rules.version) t) where
     by_tests : (b : Bool) → HasFew (with_line so_many (TickLine t) (cond b (Some Order) None))
     by_tests true = tt
     by_tests false = few

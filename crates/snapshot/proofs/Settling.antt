@@ -58,7 +58,7 @@ pub release_known : (h : Head) (tasks : List Task) (last : ℕ) (job : JobFacts)
 release_known h tasks last job may =
     let it : IsJob job = all_last IsJob (declared_jobs h tasks).jobs job (valid_parts may.valid).each in
     let window : job.release + job.work ≤ job.deadline = (job_limits it).window in
-    let due : job.deadline ≤ 1_000_000_000_000 = (job_limits it).due in
+    let due : job.deadline ≤ last_tick = (job_limits it).due in
     omega arith
 
 -- what is said of an error

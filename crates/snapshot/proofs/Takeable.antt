@@ -5,10 +5,10 @@ use Rattle.std.proofs.Common.{arith, Some, codes, nat_le, nat_lt, ◌==◌, le-l
 use Rattle.std.specs.List.{AllByRecursion}
 use Rattle.std.proofs.lemmas.Bool.{and_from}
 use Rattle.std.proofs.lemmas.List.{map-append}
-use Rattle.dover_model.specs.Common.{last_tick, most_jobs, most_lines, most_items, IsJob, Instance, under, IsValid}
-use Rattle.dover_model.specs.Common.{is_valid, Item, JobItem, Session, instance_of}
-use Rattle.dover_model.specs.Common.{admitted_jobs, mark_after, session_with, settled_state, IsMember, IsNumberedFrom}
-use Rattle.dover_model.specs.Common.{jobs_of, State, Account, Open}
+use Rattle.dover_model.specs.Common.{last_tick, last_tick_in, most_jobs, most_lines, most_items, IsJob, Instance, under}
+use Rattle.dover_model.specs.Common.{IsValid, is_valid, Item, JobItem, Session, instance_of, admitted_jobs, mark_after}
+use Rattle.dover_model.specs.Common.{session_with, settled_state, IsMember, IsNumberedFrom, jobs_of, State, Account}
+use Rattle.dover_model.specs.Common.{Open}
 use Rattle.dover_model.specs.declared.events.Role.{Role}
 use Rattle.dover_model.specs.declared.events.Role.TheVariants.{Coming, Fresh}
 use Rattle.dover_model.specs.declared.events.Task.{Task}
@@ -18,7 +18,7 @@ use Rattle.dover_model.proofs.sessions.Accounts.{Holds, HoldsBy, HoldsOpen, IsKe
 use Rattle.dover_model.proofs.settled.Barriers.{AtBarrier, settled_at_barrier}
 use Rattle.dover_model.proofs.runs.Honest.{numbers_low, count_jobs}
 use Rattle.dover_model.proofs.steps.Kept.{each_job}
-use Rattle.dover_model.proofs.valid.Limiting.{lines_most}
+use Rattle.dover_model.proofs.valid.Limiting.{lines_most, tick_most}
 use Rattle.dover_model.proofs.texts.NoFeeds.{header_short}
 use Rattle.dover_model.proofs.valid.Valid.{valid_front}
 use Rattle.snapshot.specs.Snapshot.{Head, IsHead, IsStored, IsState, head_line, state_line}
@@ -90,7 +90,7 @@ module _ (S : Session) (mark lines : ℕ) (holds : Holds S mark lines) (few : li
     pub is_head : IsHead h
     is_head =
         let rules = header_short S.rules (valid_parts holds.reads.valid).ratio in
-        let known : mark ≤ 1_000_000_000_000 = holds.known in
+        let known : mark ≤ last_tick = omega (arith, holds.known, tick_most S.rules.version) in
         let most : lines ≤ 16_000_000_000 = omega (arith, few, lines_most S.rules.version) in
         record {
           ratio = (valid_parts holds.reads.valid).ratio;
@@ -115,7 +115,7 @@ module _ (S : Session) (mark lines : ℕ) (holds : Holds S mark lines) (few : li
           let job : IsJob t.job = each_job IsJob tasks
           (subst (AllByRecursion IsJob) (sym jobs_same) (valid_parts holds.reads.valid).each) t m in
           let window : t.job.release + t.job.work ≤ t.job.deadline = (job_limits job).window in
-          let due : t.job.deadline ≤ 1_000_000_000_000 = (job_limits job).due in
+          let due : t.job.deadline ≤ last_tick = (job_limits job).due in
           let modest : t.job.value ≤ 1_000_000_000 = (job_limits job).modest in
           let had : t.had ≤ t.job.work = bar.keeps.sound.at_most_work t m in
           let low : t.number < 0 + length tasks = numbers_low 0 tasks bar.keeps.sound.numbered t m in
@@ -132,13 +132,13 @@ module _ (S : Session) (mark lines : ℕ) (holds : Holds S mark lines) (few : li
     within : is_within_limits h ≡ true
     within = and_from (ab && nat_le (length J.jobs + 1) lines) (nat_le lines (most_lines S.rules.version))
         (and_from ab (nat_le (length J.jobs + 1) lines)
-        (and_from (nat_le mark last_tick) (nat_le (length J.jobs) (most_jobs Two))
-        (le-leb mark last_tick holds.known) (le-leb (length J.jobs) (most_jobs Two) listed))
+        (and_from (nat_le mark (last_tick_in S.rules.version)) (nat_le (length J.jobs) (most_jobs Two))
+        (le-leb mark (last_tick_in S.rules.version) holds.known) (le-leb (length J.jobs) (most_jobs Two) listed))
         (le-leb (length J.jobs + 1) lines (omega (arith, reached.enough, jobs_least S.items)))) (le-leb lines
         (most_lines S.rules.version) few)
       where
         ab : Bool
-        ab = nat_le mark last_tick && nat_le (length J.jobs) (most_jobs Two)
+        ab = nat_le mark (last_tick_in S.rules.version) && nat_le (length J.jobs) (most_jobs Two)
 
     module _ (front : List Task) (t : Task) (back : List Task) (split : front ++ t ∷ back ≡ tasks) where
       -- the jobs up to this one are the first of the feed's

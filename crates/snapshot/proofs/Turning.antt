@@ -295,10 +295,10 @@ module _ (r : Resuming) (h : Head) (tasks : List Task) (about : IsAbout r h task
           (settled J at ++ e ∷ []))
           (some_same right.0 (record { at = at; finish = one.finish }) (sym right.1 ∙ one.right)) right.3
 
-      pub one_here : (new : Resuming) → at ≤ last_tick → new.handed ≡ r.handed + 1 → new.last ≡ at
+      pub one_here : (new : Resuming) → new.handed ≡ r.handed + 1 → new.last ≡ at
           → Rests new.server with_one (Mark at) → has_roster new.server ≡ true
           → HasRun new h tasks at
-      one_here new known handed last rests listed =
+      one_here new handed last rests listed =
           let right : finish_at J at one.finish.number ≡ Some (record { at = at; finish = one.finish }) =
           ap (finish_at J at) one.number ∙ one.right in
           let valid_J : IsValid J = near.near.rests.rests.follows.valid in
@@ -310,24 +310,24 @@ module _ (r : Resuming) (h : Head) (tasks : List Task) (about : IsAbout r h task
                 arith,
                 handed,
                 near.counted.count,
-                finish_count h tasks near.items at near.near.handed near.near.no_later known about.numbered valid_J
+                finish_count h tasks near.items at near.near.handed near.near.no_later about.numbered valid_J
                     one.finish one.stored right,
               );
-              last = last ∙ sym (finish_mark h tasks near.items at near.near.handed near.near.no_later known
+              last = last ∙ sym (finish_mark h tasks near.items at near.near.handed near.near.no_later
                   about.numbered valid_J one.finish one.stored right);
             };
             served = record {
-              handed = handed_finish h tasks near.items at near.near.handed near.near.no_later known about.numbered
+              handed = handed_finish h tasks near.items at near.near.handed near.near.no_later about.numbered
                   valid_J one.finish one.stored right;
               no_later = omega (
                 arith,
-                finish_mark h tasks near.items at near.near.handed near.near.no_later known
+                finish_mark h tasks near.items at near.near.handed near.near.no_later
                     about.numbered valid_J one.finish one.stored right,
               );
               known = near.near.known;
               rests = subst (λ K. Rests new.server K (Mark at)) (sym (finish_run h tasks near.items at near.near.handed
-                  near.near.no_later known about.numbered valid_J one.finish one.stored right)) rests;
-              to_come = others_to_come h tasks near.items at near.near.handed near.near.no_later known about.numbered
+                  near.near.no_later about.numbered valid_J one.finish one.stored right)) rests;
+              to_come = others_to_come h tasks near.items at near.near.handed near.near.no_later about.numbered
                   valid_J one.finish one.stored right near.near.near;
               listed = listed;
             };

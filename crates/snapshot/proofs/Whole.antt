@@ -6,8 +6,8 @@ use Rattle.std.specs.List.{AllByRecursion}
 use Rattle.std.proofs.lemmas.Bool.{and_parts}
 use Rattle.std.proofs.lemmas.List.Sums.{fold-append}
 use Rattle.dover_model.specs.declared.events.Task.{Task}
-use Rattle.dover_model.specs.Common.{last_tick, most_lines, most_ready, Instance, under, having, IsValid, Item, Session}
-use Rattle.dover_model.specs.Common.{instance_of, admitted_jobs, early_finishes, mark_after, may_finish_early}
+use Rattle.dover_model.specs.Common.{last_tick_in, most_lines, most_ready, Instance, under, having, IsValid, Item}
+use Rattle.dover_model.specs.Common.{Session, instance_of, admitted_jobs, early_finishes, mark_after, may_finish_early}
 use Rattle.dover_model.specs.Common.{IsValidSession, settled_state, IsMember, Each, HaveTheSame, jobs_of, State}
 use Rattle.dover_model.specs.Common.{in_lines, TickLine, feed_text, Account, no_lines, next_line, account_of_lines}
 use Rattle.dover_model.specs.Common.{account, is_open}
@@ -56,7 +56,7 @@ feedless_items [] = tt
 feedless_items (i ∷ items) = (feedless_feed (line_of_item i), feedless_items items)
 
 -- tick lines at the mark, in the account of so many lines
-tick_lines_account : (S : Session) (lines n mark tick : ℕ) → mark ≤ tick → tick ≤ last_tick
+tick_lines_account : (S : Session) (lines n mark tick : ℕ) → mark ≤ tick → tick ≤ last_tick_in S.rules.version
     → lines + n ≤ most_lines S.rules.version → (n ≡ 0 → mark ≡ tick)
     → fold next_line (open_account lines (Some S) mark) (replicate n (feed_text (TickLine tick)))
     ≡ open_account (lines + n) (Some S) tick

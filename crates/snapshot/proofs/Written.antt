@@ -38,13 +38,13 @@ pub counts_fit : (lines mark jobs b c : ℕ) → lines ≤ most_lines Three → 
     → length (numbers_behind (lines ∷ mark ∷ jobs ∷ b ∷ c ∷ []) ++ 10 ∷ []) ≤ 61
 counts_fit lines mark jobs b c few known listed small_b small_c =
     let low_lines : lines ≤ 16_000_000_000 = few in
-    let low_mark : mark ≤ 1_000_000_000_000 = known in
+    let low_mark : mark ≤ 10_000_000_000_000_000 = known in
     let low_jobs : jobs ≤ 4_000_000_000 = listed in
     let low_b : b ≤ 1_000_000 = small_b in
     let low_c : c ≤ 1_000 = small_c in
-    let first : length (decimal lines) ≤ 13 = length-decimal-le 13 lines (omega arith) (omega arith) (omega arith) in
-    let second : length (decimal mark) ≤ 13 = length-decimal-le 13 mark (omega arith) (omega arith) (omega arith) in
-    let third : length (decimal jobs) ≤ 13 = length-decimal-le 13 jobs (omega arith) (omega arith) (omega arith) in
+    let first : length (decimal lines) ≤ 11 = length-decimal-le 11 lines (omega arith) (omega arith) (omega arith) in
+    let second : length (decimal mark) ≤ 17 = length-decimal-le 17 mark (omega arith) (omega arith) (omega arith) in
+    let third : length (decimal jobs) ≤ 10 = length-decimal-le 10 jobs (omega arith) (omega arith) (omega arith) in
     let fourth : length (decimal b) ≤ 8 = length-decimal-le 8 b (omega arith) (omega arith) (omega arith) in
     let fifth : length (decimal c) ≤ 8 = length-decimal-le 8 c (omega arith) (omega arith) (omega arith) in
     omega (

@@ -6,11 +6,11 @@ use Rattle.std.specs.Bool.{then_some}
 use Rattle.dover_model.specs.declared.events.Role.{Role}
 use Rattle.dover_model.specs.declared.events.Role.TheVariants.{Waiting, Held, Running, Done, Gone}
 use Rattle.dover_model.specs.declared.events.Task.{Task}
-use Rattle.dover_model.specs.Common.{last_tick, most_jobs, most_lines, job_of_numbers, is_ratio, fraction, with_factor}
-use Rattle.dover_model.specs.Common.{Finish, Instance, Declaration, under, finishing, is_valid, Item, Session}
-use Rattle.dover_model.specs.Common.{may_finish_early, mark_after, is_done, session_of_run, factor_rules, numerals}
-use Rattle.dover_model.specs.Common.{is_too_long, fields_of, numbers_of, version_of_number, settled_state, finish_now}
-use Rattle.dover_model.specs.Common.{jobs_of}
+use Rattle.dover_model.specs.Common.{last_tick_in, most_jobs, most_lines, job_of_numbers, is_ratio, fraction}
+use Rattle.dover_model.specs.Common.{with_factor, Finish, Instance, Declaration, under, finishing, is_valid, Item}
+use Rattle.dover_model.specs.Common.{Session, may_finish_early, mark_after, is_done, session_of_run, factor_rules}
+use Rattle.dover_model.specs.Common.{numerals, is_too_long, fields_of, numbers_of, version_of_number, settled_state}
+use Rattle.dover_model.specs.Common.{finish_now, jobs_of}
 use Rattle.snapshot.specs.Snapshot.{Head, role_word}
 use Rattle.dover_model.specs.declared.events.Version.{Version}
 use Rattle.dover_model.specs.declared.events.Version.TheVariants.{Two}
@@ -66,7 +66,7 @@ read_task line = if is_too_long line then None else task_of_fields (fields_of li
 -- Mark and counts are within the limits, and there are lines for the ratio and for each job. A snapshot has no more
 -- jobs than a feed of version Two.
 abbrev pub is_within_limits : Head → Bool
-is_within_limits h = nat_le h.mark last_tick && nat_le h.jobs (most_jobs Two)
+is_within_limits h = nat_le h.mark (last_tick_in h.rules.version) && nat_le h.jobs (most_jobs Two)
     && nat_le (h.jobs + 1) h.lines && nat_le h.lines (most_lines h.rules.version)
 
 -- the jobs so far, under the rules of the first line

@@ -7,7 +7,6 @@ ghost use Rattle.snapshot.specs.Reading as model;
 ghost use Rattle.snapshot.specs.Snapshot.{role_word};
 ghost use Rattle.snapshot.specs.Forms.{head_in, task_in, behind_number, behind_word};
 
-use dover_model::jobs::LAST_TICK;
 use dover_model::{Ratio, Role, Version};
 use event_feed::declared_with_factor;
 use line_text::{LINE_BYTES, behind_word, first_number, numbers_in};
@@ -38,7 +37,7 @@ pub(crate) struct StateLine {
 pub(crate) fn is_within_limits(head: &Head) -> bool
     ensures { result ≡ model.is_within_limits (head_in head.now) }
 {
-    head.mark <= LAST_TICK
+    head.mark <= head.version.last_tick()
         && head.jobs <= u64::from(Version::Two.most_jobs())
         && head.jobs + 1 <= head.lines
         && head.lines <= head.version.most_lines()

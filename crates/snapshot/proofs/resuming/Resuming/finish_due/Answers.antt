@@ -53,7 +53,7 @@ pub returns-clause-run : goal.returns-clause-run
 returns-clause-run g c = λ h tasks about near.
     let k = kept_roster c.args.self.now.server near.near.listed in
     let is = sym (c.in-Some.ensures k.0 k.1) ∙ ap (λ (t : ℕ). Some (c.in-Some.number, t)) c.if-tick-at.false in
-    one_here c.args.self.now h tasks about c.args.at near k.0 k.1 c.in-Some.number is _ c.requires.known refl refl
+    one_here c.args.self.now h tasks about c.args.at near k.0 k.1 c.in-Some.number is _ refl refl
     (c.settle.ensures.rests
     (with_one c.args.self.now h tasks about c.args.at near k.0 k.1 c.in-Some.number is) c.args.at _
     (served_one c.args.self.now h tasks about c.args.at near k.0 k.1 c.in-Some.number is c.finish.new.self
