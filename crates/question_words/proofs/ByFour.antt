@@ -55,6 +55,7 @@ module _ (J : Instance) (valid : IsValid J) (listable : IsListable J) where
       factor = factor_fits J.rules.ratio.factor limits.factor;
     });
     each = parts.each;
+    due = omega (arith, listable.due);
     in_order = parts.in_order;
     count = omega (arith, listable.count);
     total = omega (arith, listable.total);

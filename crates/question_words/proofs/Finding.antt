@@ -1,12 +1,12 @@
 -- What the word `best` says is what was found.
-use Rattle.std.proofs.Common.{◌≡◌, ◌≤◌, ◌<◌, ℕ, List, length, sym, ap, ◌∙◌, subst, codes}
+use Rattle.std.proofs.Common.{◌≡◌, ◌≤◌, ℕ, List, length, sym, ap, ◌∙◌, subst, codes}
 use Rattle.clairvoyant.specs.best.BestSet.{IsBestSet, value_of, pieces_of}
 use Rattle.dover_model.specs.Common.{bound, Rules, Instance, IsValid, JobFacts, observed, spread, completed_value, ran}
 use Rattle.dover_model.specs.Common.{worth}
 use Rattle.dover_model.specs.declared.pieces.Piece.{Piece}
 use Rattle.dover_model.proofs.runs.Honest.{observed_honest}
 use Rattle.dover_port.specs.declared.status.Status.TheVariants.{Done}
-use Rattle.question_words.specs.Best.{SaysBest, IsOptimum}
+use Rattle.question_words.specs.Best.{IsFew, SaysBest, IsOptimum}
 use Rattle.question_words.specs.Texts.{piece_lines}
 use Rattle.question_words.proofs.Comparing.{worth_low}
 use Rattle.question_words.proofs.Lines.{four, four_same}
@@ -46,7 +46,7 @@ module _ (J : Instance) (valid : IsValid J) where
   pub found : (jobs : List JobFacts) → jobs ≡ (observed J).jobs
       → (chosen : List ℕ) (count optimum value most : ℕ) (pieces : List Piece)
       → Finds jobs chosen optimum pieces → count ≡ length J.jobs → value ≡ completed_value J
-      → most ≡ bound J.rules.ratio value → (20 < length J.jobs → ⊥) → (text : List ℕ)
+      → most ≡ bound J.rules.ratio value → IsFew J → (text : List ℕ)
       → text ≡ four (codes "jobs") (codes "optimum") (codes "value") (codes "bound") count optimum value most
       (piece_lines pieces)
       → SaysBest J Done text

@@ -4,7 +4,6 @@ pub mod Comparing
 pub mod Counts
 pub mod Finding
 pub mod Handed
-pub mod Limited
 pub mod Lines
 pub mod Losing
 pub mod Observations

@@ -15,7 +15,7 @@ use Rattle.dover_model.specs.Common.{is_job, observing, observed, end_state, ser
 use Rattle.dover_model.specs.Common.{printed_of, ticks_given, is_served, numbered, IsMember, Each, IsNumberedFrom}
 use Rattle.dover_model.specs.Common.{Keeps, jobs_of, State, opening, is_over, is_done, value_sum, Move, Prints, Waits}
 use Rattle.dover_model.specs.Common.{Ticks, step, after, ending, ◌or_else◌, with_role, displaced, ticked, IsWholeRun}
-use Rattle.dover_model.specs.Common.{Job}
+use Rattle.dover_model.specs.Common.{Job, last_deadline}
 use Rattle.dover_model.proofs.steps.Deeds.{Deed, Completed, Resumed, Started, Began, Preempted, Stayed, Arrived, Taken}
 use Rattle.dover_model.proofs.steps.Deeds.{Abandoned, Rested}
 use Rattle.dover_model.proofs.runs.Ending.{end_over, run_is_whole}
@@ -30,6 +30,7 @@ use Rattle.dover_model.proofs.steps.Ticking.{Quiet}
 use Rattle.question_words.specs.Loss.{completes, is_completed}
 use Rattle.question_words.specs.Replaying.{with_work, job_seen, jobs_seen}
 use Rattle.dover_model.proofs.bound.Booked.{displaced_done}
+use Rattle.dover_model.proofs.valid.Dues.{later_due}
 use Rattle.dover_model.proofs.valid.ValidParts.{ReleasesInOrder, order_from, valid_parts}
 use Rattle.dover_model.proofs.valid.JobLimits.{job_limits, job_from}
 
@@ -214,6 +215,11 @@ observing_total (t ∷ tasks) = omega (
   sum_by-cons (λ (j : JobFacts). j.value) t.job (jobs_of tasks),
 )
 
+-- with the same deadlines, they are due as late
+observing_due : (d : ℕ) (tasks : List Task) → fold later_due d (map observing tasks) ≡ fold later_due d (jobs_of tasks)
+observing_due d [] = refl
+observing_due d (t ∷ tasks) = observing_due (later_due d t.job) tasks
+
 -- there are as many
 observing_count : (tasks : List Task) → length (map observing tasks) ≡ length (jobs_of tasks)
 observing_count [] = refl
@@ -310,6 +316,7 @@ module _ (J : Instance) (valid : IsValid J) where
         (it.served t member).done (done_role t (it.over t member) is) in
         job_from (record {
           work = omega (arith, had, need_some J.rules.finishes t.number t.job.work (job_limits job).work);
+          small = omega (arith, (job_limits job).small, it.keeps.sound.at_most_work t member);
           window = omega (arith, (job_limits job).window, it.keeps.sound.at_most_work t member);
           due = (job_limits job).due;
           worth = (job_limits job).worth;
@@ -331,6 +338,10 @@ module _ (J : Instance) (valid : IsValid J) where
 
   pub observed_total : total_value (observed J).jobs ≡ total_value J.jobs
   observed_total = ap total_value jobs_are ∙ observing_total last.tasks ∙ ap total_value it.keeps.jobs
+
+  -- and due as late
+  pub observed_due : last_deadline (observed J).jobs ≡ last_deadline J.jobs
+  observed_due = ap last_deadline jobs_are ∙ observing_due 0 last.tasks ∙ ap last_deadline it.keeps.jobs
 
   -- one that the run completes is served by the run's own schedule
   pub completed_served : Each (λ (n_j : Job). is_completed J n_j.0 ≡ true → is_served (ran J) n_j ≡ true)

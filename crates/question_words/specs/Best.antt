@@ -1,7 +1,8 @@
 -- What the word `best` says of the jobs of a feed.
-use Rattle.std.specs.Prelude.{◌≡◌, ◌<◌, ◌≤◌, ℕ, List, [], ◌∷◌, length, codes}
+use Rattle.std.specs.Prelude.{◌≡◌, ◌≤◌, ℕ, List, [], ◌∷◌, length, codes}
 use Rattle.clairvoyant.specs.best.BestSet.{IsBestSet, value_of, pieces_of}
-use Rattle.dover_model.specs.Common.{bound, Instance, with_numbers, in_lines, observed, spread, completed_value, worth}
+use Rattle.dover_model.specs.Common.{bound, Instance, IsListable, with_numbers, in_lines, observed, spread}
+use Rattle.dover_model.specs.Common.{completed_value, worth}
 use Rattle.dover_port.specs.declared.status.Status.{Status}
 use Rattle.dover_port.specs.declared.status.Status.TheVariants.{Done, Refused}
 use Rattle.dialogue.specs.Sizes.{size_text}
@@ -26,8 +27,12 @@ pub record IsOptimum (J : Instance) (chosen : List ℕ) : Type 0 where
   pub above : completed_value J ≤ value_of (observed J).jobs chosen
   pub within : value_of (observed J).jobs chosen ≤ bound J.rules.ratio (completed_value J)
 
--- Done with the best set, and Refused exactly where there are more than 20 jobs
+-- the jobs are at most 20, and worth no more and due no later than those of version Two may be
+abbrev pub IsFew : Instance → Type 0
+IsFew J = (length J.jobs ≤ 20) × IsListable J
+
+-- Done with the best set, and Refused exactly where the jobs aren't few
 abbrev pub SaysBest : Instance → Status → List ℕ → Type 0
-SaysBest J Done text = (20 < length J.jobs → ⊥) × ((chosen : List ℕ) × IsOptimum J chosen × (text ≡ best_text J chosen))
-SaysBest J Refused text = (20 < length J.jobs) × (text ≡ size_text)
+SaysBest J Done text = IsFew J × ((chosen : List ℕ) × IsOptimum J chosen × (text ≡ best_text J chosen))
+SaysBest J Refused text = (IsFew J → ⊥) × (text ≡ size_text)
 SaysBest J _ text = ⊥

@@ -48,7 +48,8 @@ pub record AreWithin (J : Instance) : Type 0 where
   pub edf : worth_of earliest_deadline (observed J) ≤ bound J.rules.ratio (completed_value J)
   pub dense : worth_of greatest_density (observed J) ≤ bound J.rules.ratio (completed_value J)
 
--- Done with the numbers, and Refused exactly where the jobs are more, or worth more, than those of version Two may be
+-- Done with the numbers, and Refused exactly where the jobs are more, or worth more or due later, than those of version
+-- Two may be
 abbrev pub SaysCompare : Instance → Status → List ℕ → Type 0
 SaysCompare J Done text = IsListable J × AreWithin J × (text ≡ compare_text J)
 SaysCompare J Refused text = (IsListable J → ⊥) × (text ≡ size_text)

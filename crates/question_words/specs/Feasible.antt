@@ -17,7 +17,7 @@ abbrev pub window_text : (a b work : ℕ) → List ℕ
 window_text a b work = in_lines (with_numbers (codes "window") (a ∷ b ∷ work ∷ []) ∷ [])
 
 -- Done where some schedule serves every job, with the pieces of one that does, and else No, with the window that shows
--- it; and Refused exactly where the jobs are more, or worth more, than those of version Two may be
+-- it; and Refused exactly where the jobs are more, or worth more or due later, than those of version Two may be
 abbrev pub SaysFeasible : Instance → Status → List ℕ → Type 0
 SaysFeasible J Done text = IsListable J × Meets J
     × ((pieces : List Piece) × ShowsAll J.jobs pieces × (text ≡ pieces_text pieces))

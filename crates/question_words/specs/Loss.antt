@@ -55,8 +55,8 @@ pub record IsCeiling (J : Instance) (it : Costed) : Type 0 where
   pub reached : length J.jobs ≤ 327_680 → Each (IsReached (observed J).jobs) it.stretches.items
   pub none_lost : J.rules.finishes ≡ [] → it.stretches.items ≡ [] → completed_value J ≡ total_value J.jobs
 
--- Done with some stretches that show a ceiling, and Refused exactly where the jobs are more, or worth more, than those
--- of version Two may be
+-- Done with some stretches that show a ceiling, and Refused exactly where the jobs are more, or worth more or due
+-- later, than those of version Two may be
 abbrev pub SaysLoss : Instance → Status → List ℕ → Type 0
 SaysLoss J Done text = IsListable J × ((costed : Costed) × IsCeiling J costed × (text ≡ loss_text J costed))
 SaysLoss J Refused text = (IsListable J → ⊥) × (text ≡ size_text)

@@ -182,7 +182,7 @@ impl Answer {
         }
     }
 
-    /// The line that refuses more jobs than are answered.
+    /// The line that refuses jobs that are more than are answered, or worth more or due later.
     pub(crate) fn too_many(alloc: Global) -> Answer
         ensures status { result.status ≡ Refused }
         ensures text { text_of result ≡ in_lines (codes "refused size" ∷ []) }

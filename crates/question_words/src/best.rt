@@ -1,13 +1,14 @@
 //! The word `best`.
-ghost use Rattle.std.specs.Prelude.{IfOk, length};
+ghost use Rattle.std.specs.Prelude.{◌↔◌, IfOk, IsTrue, length};
 ghost use Rattle.dover_model.specs.Common.{IsValid, CostsAtMost};
 ghost use Rattle.dialogue.specs.Talk.{IsFinal};
 ghost use Rattle.event_feed.specs.Listing.{listed_instance, StandAmong};
-ghost use Rattle.question_words.specs.Best.{SaysBest};
+ghost use Rattle.question_words.specs.Best.{IsFew, SaysBest};
 ghost use Rattle.question_words.specs.Texts.{text_of};
 
 use crate::answer::{Answer, Rows};
 use crate::bounding::put_bound;
+use crate::limits::is_listable;
 use crate::observing::observe;
 use clairvoyant::best::best;
 use comparison_count::Comparisons;
@@ -21,10 +22,17 @@ use std::sync::ledger::Ledger;
 /// The most jobs of which the best set is sought.
 const MOST_JOBS: usize = 20;
 
+/// Whether the best set of the jobs is sought.
+fn is_sought(listed: &Listed) -> bool
+    ensures { IsTrue result ↔ IsFew (listed_instance listed.now) }
+{
+    listed.jobs.len() <= MOST_JOBS && is_listable(listed)
+}
+
 /// Finds the best set of the jobs, as the run observed them, and says what came of it: how many jobs there are, what
 /// the best set of them that one schedule serves is worth, the value that the run completes, the bound on what any
-/// schedule is worth, and the schedule of the best set, in stretches of one job. More than 20 jobs are refused. Memory
-/// is taken for the search and for the run.
+/// schedule is worth, and the schedule of the best set, in stretches of one job. More than 20 jobs are refused, and
+/// jobs beyond the limits of version Two. Memory is taken for the search and for the run.
 pub(crate) fn answer<L: Ledger>(
     alloc: Global,
     listed: Listed,
@@ -36,7 +44,7 @@ pub(crate) fn answer<L: Ledger>(
     ensures ends { IfOk result (λ answer. IsFinal answer.status) }
     ensures count { CostsAtMost (length listed.jobs.items) comparisons.old comparisons.new }
 {
-    if MOST_JOBS < listed.jobs.len() {
+    if !is_sought(&listed) {
         return Ok(Answer::too_many(alloc));
     }
     let ratio = listed.ratio;

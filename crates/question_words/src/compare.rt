@@ -78,8 +78,8 @@ fn completed_by_four<L: Ledger>(
 /// Compares the rules with those of version Four and with the policies over the jobs, which these know as the run
 /// observed them, and says what came of it: the value that the run completes; the value that version Four completes of
 /// the jobs as they were declared; what the schedules by earliest deadline and by greatest density are worth, how many
-/// jobs each completes and how often it stops one; and the bound on what any schedule is worth. Jobs that are more than
-/// those of version Two may be, or worth more, are refused. Memory is taken for the runs.
+/// jobs each completes and how often it stops one; and the bound on what any schedule is worth. Jobs that are more, or
+/// worth more or due later, than those of version Two may be are refused. Memory is taken for the runs.
 pub(crate) fn answer<L: Ledger>(
     alloc: Global,
     listed: Listed,

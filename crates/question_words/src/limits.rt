@@ -5,7 +5,7 @@ ghost use Rattle.dover_model.specs.Common.{IsListable, total_value, most_jobs};
 ghost use Rattle.event_feed.specs.Listing.{listed_instance};
 
 use dover_model::Version;
-use dover_model::jobs::total_value;
+use dover_model::jobs::{last_deadline, total_value};
 use event_feed::Listed;
 
 /// Whether the jobs are within the limits of version Two, as those of versions One and Two always are. Takes no memory.
@@ -16,4 +16,5 @@ pub(crate) fn is_listable(listed: &Listed) -> bool
         return false;
     }
     total_value(&listed.jobs) <= Version::Two.most_total()
+        && last_deadline(&listed.jobs) <= Version::Two.last_tick()
 }

@@ -32,9 +32,10 @@ pub enum Question {
 /// refused. Refused lines of versions Two and Three are passed over. In version Three jobs may have finished early:
 /// `Feasible` is answered on the jobs as they were declared, and the others on the jobs as their run observed them,
 /// where what a completed job had stands for its work. What version Four completes `Compare` says of the declared jobs.
-/// Jobs that are more, or worth more, than those of version Two may be are refused by each question: those that are
-/// more at the first of them, behind which nothing is read, where a job that found no room counts as one. All are kept
-/// until the feed ends: memory is taken for each admitted job, for each done line behind one, and for the answer.
+/// Jobs that are more, or worth more or due later, than those of version Two may be are refused by each question: those
+/// that are more at the first of them, behind which nothing is read, where a job that found no room counts as one. All
+/// are kept until the feed ends: memory is taken for each admitted job, for each done line behind one, and for the
+/// answer.
 pub fn question_word<P: Port, L: Ledger>(
     alloc: Global,
     port: &mut P,

@@ -1,47 +1,51 @@
-use Rattle.std.proofs.Common.{◌≡◌, ◌≤◌, ℕ, ◌∙◌, refl, length, ap, sym, subst, codes, arith}
-use Rattle.dover_model.specs.Common.{bound, Instance, IsInOrder, IsListable, IsValid}
+use Rattle.std.proofs.Common.{◌≡◌, ◌≤◌, ◌∙◌, refl, length, ap, sym, subst, codes, arith}
+use Rattle.dover_model.specs.Common.{bound, IsInOrder, last_deadline, last_tick_in}
+use Rattle.dover_model.specs.declared.events.Version.TheVariants.{Two}
+use Rattle.dover_model.proofs.lists.Tests.{never}
 use Rattle.dialogue.specs.Talk.{IsFinal}
 use Rattle.event_feed.specs.Listing.{listed_instance}
 use Rattle.question_words.specs.Best.{SaysBest}
 use Rattle.question_words.specs.Texts.{piece_lines, text_of}
 use Rattle.question_words.proofs.Comparing.{value_short}
 use Rattle.question_words.proofs.Finding.{found}
-use Rattle.question_words.proofs.Limited.{few_listable}
 use Rattle.question_words.proofs.Lines.{four_written}
-use Rattle.question_words.proofs.Observations.{observed_in_order, observed_count}
+use Rattle.question_words.proofs.Observations.{observed_in_order, observed_count, observed_due}
 use Rattle.question_words.proofs.best.answer.Goals as goal
 
--- so few jobs are within the limits
-few : (J : Instance) → IsValid J → (n : ℕ) → n ≤ 20 → n ≡ length J.jobs → IsListable J
-few J valid n low is = few_listable J valid (omega (arith, low, is))
-
 pub observe-requires-clause-listable : goal.observe-requires-clause-listable
-observe-requires-clause-listable g c = few (listed_instance c.args.listed) c.requires.valid c.len.result
-    (omega arith) (omega (arith, c.len.ensures, c.args.listed.jobs.ok.0))
+observe-requires-clause-listable g c = (c.if-not-is_sought.ensures.0 refl).1
 
-pub best-requires : goal.best-requires
-best-requires g c = subst IsInOrder (sym (c.deref.ensures.value ∙ c.in_ok-value.ensures.jobs))
+pub best-requires-clause-in_order : goal.best-requires-clause-in_order
+best-requires-clause-in_order g c = subst IsInOrder (sym (c.deref.ensures.value ∙ c.in_ok-value.ensures.jobs))
     (observed_in_order (listed_instance c.args.listed) c.requires.valid)
+
+pub best-requires-clause-due : goal.best-requires-clause-due
+best-requires-clause-due g c = subst (λ js. last_deadline js ≤ last_tick_in Two)
+    (sym (c.deref.ensures.value ∙ c.in_ok-value.ensures.jobs))
+    (omega (
+      arith,
+      observed_due (listed_instance c.args.listed) c.requires.valid,
+      (c.if-not-is_sought.ensures.0 refl).1.due,
+    ))
 
 pub put_bound-requires-clause-value : goal.put_bound-requires-clause-value
 put_bound-requires-clause-value g c = value_short (listed_instance c.args.listed) c.requires.valid
-    (few (listed_instance c.args.listed) c.requires.valid c.len.result
-    (omega arith) (omega (arith, c.len.ensures, c.args.listed.jobs.ok.0))) _ c.in_ok-value.ensures.value
+    (c.if-not-is_sought.ensures.0 refl).1 _ c.in_ok-value.ensures.value
 
 pub returns-clause-says : goal.returns-clause-says
 returns-clause-says g c =
     let best = c.in-Ok.best in
     let J = listed_instance c.args.listed in
-    let count : c.len-2.result ≡ length c.args.listed.jobs.items =
+    let count : c.len.result ≡ length c.args.listed.jobs.items =
     omega (
       arith,
-      c.len-2.ensures,
+      c.len.ensures,
       c.in_ok-value.jobs.ok.0,
       ap length c.in_ok-value.ensures.jobs,
       observed_count J c.requires.valid,
     ) in
     found J c.requires.valid c.deref.result.now (c.deref.ensures.value ∙ c.in_ok-value.ensures.jobs) best.chosen.items
-    c.len-2.result best.value c.in_ok-value.value (bound J.rules.ratio c.in_ok-value.value) best.pieces.items
+    c.len.result best.value c.in_ok-value.value (bound J.rules.ratio c.in_ok-value.value) best.pieces.items
     (record {
       best = c.in-Ok.ensures.chosen;
       value = c.in-Ok.ensures.value;
@@ -49,8 +53,8 @@ returns-clause-says g c =
       earned = c.in-Ok.ensures.worth;
       most = c.in-Ok.ensures.most;
     }) count c.in_ok-value.ensures.value refl
-    (λ many. absurd (omega (arith, many, c.len.ensures, c.args.listed.jobs.ok.0))) _
-    (four_written (codes "jobs") (codes "optimum") (codes "value") (codes "bound") c.len-2.result best.value
+    (c.if-not-is_sought.ensures.0 refl) _
+    (four_written (codes "jobs") (codes "optimum") (codes "value") (codes "bound") c.len.result best.value
     c.in_ok-value.value (bound J.rules.ratio c.in_ok-value.value) (piece_lines best.pieces.items) c.new-head.result
     c.put_bound.new.head c.put_with_wide.new.self c.put_with_wide-2.new.self c.put_with_wide-3.new.self
     c.new-head.ensures c.put_bound.ensures.is c.put_with_wide.ensures.is c.put_with_wide-2.ensures.is
@@ -85,14 +89,14 @@ returns-in_default-clause-count g c = c.observe.ensures.count
 pub returns-clause-count : goal.returns-clause-count
 returns-clause-count g c = c.observe.ensures.count
 
-pub returns-then-len-gt-MOST_JOBS-clause-says : goal.returns-then-len-gt-MOST_JOBS-clause-says
-returns-then-len-gt-MOST_JOBS-clause-says g c =
+pub returns-then-not-is_sought-clause-says : goal.returns-then-not-is_sought-clause-says
+returns-then-not-is_sought-clause-says g c =
     subst (λ status. SaysBest (listed_instance c.args.listed) status (text_of c.too_many.result))
     (sym c.too_many.ensures.status)
-    (omega (arith, c.if-len-gt-MOST_JOBS.true, c.len.ensures, c.args.listed.jobs.ok.0), c.too_many.ensures.text)
+    (λ few. never (sym c.if-not-is_sought.true ∙ c.is_sought.ensures.1 few), c.too_many.ensures.text)
 
-pub returns-then-len-gt-MOST_JOBS-clause-ends : goal.returns-then-len-gt-MOST_JOBS-clause-ends
-returns-then-len-gt-MOST_JOBS-clause-ends g c = subst IsFinal (sym c.too_many.ensures.status) tt
+pub returns-then-not-is_sought-clause-ends : goal.returns-then-not-is_sought-clause-ends
+returns-then-not-is_sought-clause-ends g c = subst IsFinal (sym c.too_many.ensures.status) tt
 
 pub returns-clause-ends : goal.returns-clause-ends
 returns-clause-ends g c = tt

@@ -1,5 +1,6 @@
 use Rattle.std.proofs.Common.{◌≤◌, ◌∙◌, refl, List, ap, subst, length, sym, codes, get_or, false, arith}
-use Rattle.dover_model.specs.Common.{bound, IsInOrder, IsJob, JobFacts, most_jobs, Each, ran}
+use Rattle.dover_model.specs.Common.{bound, IsInOrder, IsJob, JobFacts, last_deadline, last_tick_in, most_jobs, Each}
+use Rattle.dover_model.specs.Common.{ran}
 use Rattle.dover_model.specs.declared.events.Version.TheVariants.{Two}
 use Rattle.dover_model.proofs.runs.Honest.{observed_honest}
 use Rattle.dialogue.specs.Talk.{IsFinal}
@@ -11,7 +12,7 @@ use Rattle.question_words.specs.Texts.{stretch_lines, text_of}
 use Rattle.question_words.proofs.Comparing.{value_short}
 use Rattle.question_words.proofs.Lines.{four_written}
 use Rattle.question_words.proofs.Losing.{rows_said, lost}
-use Rattle.question_words.proofs.Observations.{observed_jobs, observed_in_order, observed_count}
+use Rattle.question_words.proofs.Observations.{observed_jobs, observed_in_order, observed_count, observed_due}
 use Rattle.question_words.proofs.loss.answer.Goals as goal
 
 pub observe_each-requires-clause-listable : goal.observe_each-requires-clause-listable
@@ -27,6 +28,15 @@ cost_of-requires-clause-count g c =
     (sym (c.deref.ensures.value ∙ c.in_ok-completed.ensures.jobs))
     (subst (λ n. n ≤ most_jobs Two) (sym (observed_count (listed_instance c.args.listed) c.requires.valid))
     (c.if-not-is_listable.ensures.0 refl).count)
+
+pub cost_of-requires-clause-due : goal.cost_of-requires-clause-due
+cost_of-requires-clause-due g c = subst (λ (js : List JobFacts). last_deadline js ≤ last_tick_in Two)
+    (sym (c.deref.ensures.value ∙ c.in_ok-completed.ensures.jobs))
+    (omega (
+      arith,
+      observed_due (listed_instance c.args.listed) c.requires.valid,
+      (c.if-not-is_listable.ensures.0 refl).due,
+    ))
 
 -- what the run completes is what its schedule is worth
 pub cost_of-requires-clause-value : goal.cost_of-requires-clause-value
