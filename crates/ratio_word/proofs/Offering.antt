@@ -49,8 +49,8 @@ pub not_alone : (version : Version) (count : ℕ) (j : JobFacts)
     → job_cause version count j ≡ Some (feed.NotAdmitted refusal.BadJob)
 not_alone version count j bad = ap (λ b. cause_by b (nat_lt count (most_jobs Three)))
     (by_bool (alone version j ≡ false) (alone version j) (λ passes.
-      let parts = and_parts (is_job j) (nat_le j.deadline (last_tick_in version)) passes in
-      absurd (bad (record { passes = parts.0 }) (leb-true _ _ parts.1))) (λ fails. fails))
+    let parts = and_parts (is_job j) (nat_le j.deadline (last_tick_in version)) passes in
+    absurd (bad (record { passes = parts.0 }) (leb-true _ _ parts.1))) (λ fails. fails))
 
 pub too_many : (version : Version) (count : ℕ) (j : JobFacts) → IsJob j → j.deadline ≤ last_tick_in version
     → most_jobs Three ≤ count → job_cause version count j ≡ Some (feed.NotAdmitted refusal.Count)
