@@ -9,6 +9,6 @@ mod viewer;
 mod window;
 
 pub use story::{Asked, why};
-pub use terminal::{schedule_timeline, timeline};
+pub use terminal::{grouped_timeline, schedule_timeline, timeline};
 pub use viewer::chrome;
 pub use window::{Window, last_deadline};

@@ -1,8 +1,8 @@
 -- A picture for a terminal, piece by piece.
 use Rattle.std.proofs.Common.{◌≡◌, ℕ, suc, ◌+◌, ◌-◌, ◌*◌, ◌≤◌, ◌<◌, List, [], ◌∷◌, ◌++◌, length, drop, get_or, refl}
 use Rattle.std.proofs.Common.{sym, ap, ◌∙◌, arith, append_assoc, append-nil, add-one, drop-cons, Option, Some, None}
-use Rattle.std.proofs.Common.{if◌then◌else◌, codes, decimal}
-use Rattle.std.proofs.lemmas.List.{drop_all}
+use Rattle.std.proofs.Common.{if◌then◌else◌, codes, decimal, map}
+use Rattle.std.proofs.lemmas.List.{drop_all, get_or-map, length-map}
 use Rattle.dover_model.specs.declared.events.Event.{Event}
 use Rattle.dover_model.specs.Common.{JobFacts, Instance, Fraction, summary_lines}
 use Rattle.run_reports.specs.report.Counts.{jobs_released, counts_lines}
@@ -12,11 +12,12 @@ use Rattle.run_reports.specs.declared.report.endings.Ending.{Ending}
 use Rattle.run_reports.specs.declared.report.endings.Ending.TheVariants.{Completed, Abandoned}
 use Rattle.run_reports.proofs.report.Counting.{jobs_are}
 use Rattle.run_record.specs.intervals.Rows.{IsRunOf}
-use Rattle.run_reports.specs.views.Templates.{filled}
+use Rattle.run_reports.specs.views.Templates.{Text, filled}
 use Rattle.run_reports.specs.views.Stays.{stays_of}
 use Rattle.run_reports.proofs.views.Joining.{whole}
 use Rattle.run_reports.specs.views.Timeline.{window_or, first_tick, end_tick, padded, labels_from, frame, meets, sign}
-use Rattle.run_reports.specs.views.Timeline.{signs_from, summed_up, loss_sign, job_line, job_lines, timeline}
+use Rattle.run_reports.specs.views.Timeline.{signs_from, summed_up, loss_sign, job_line, job_line_at, job_lines}
+use Rattle.run_reports.specs.views.Timeline.{is_of, lines_of, label_line, group_lines, all_lines, grouped_timeline}
 use Rattle.run_reports.specs.declared.views.stays.Stay.{Stay}
 use Rattle.run_reports.specs.declared.views.window.Window.{Window}
 
@@ -136,6 +137,56 @@ module _ (w : Window) (run : List Event) (jobs : List JobFacts) where
   lines_all i text whole past before = sym (append-nil text)
       ∙ ap (λ l. text ++ job_lines w run i l) (sym (drop_all i jobs past)) ∙ before
 
+-- ---- the lines of the jobs of groups
+
+module _ (w : Window) (run : List Event) (own : List ℕ) (jobs : List JobFacts) where
+  -- the line of a job of a group, or nothing
+  abbrev member_line : (g i : ℕ) → JobFacts → List ℕ
+  member_line g i j = if is_of own i g then job_line_at w run i j else []
+
+  -- one job more
+  pub members_more : (g i : ℕ) (j : JobFacts) (text longer whole : List ℕ) → j ≡ get_or jobs i j → i < length jobs
+      → longer ≡ text ++ member_line g i j → text ++ lines_of w run own g i (drop i jobs) ≡ whole
+      → longer ++ lines_of w run own g (i + 1) (drop (i + 1) jobs) ≡ whole
+  members_more g i j text longer whole is there grows before =
+      let rest = lines_of w run own g (i + 1) (drop (i + 1) jobs) in
+      let next : drop i jobs ≡ j ∷ drop (i + 1) jobs = drop-cons jobs i j there
+      ∙ ap (λ x. x ∷ drop (suc i) jobs) (sym is) ∙ ap (λ n. j ∷ drop n jobs) (sym (add-one i)) in
+      ap (λ t. t ++ rest) grows ∙ append_assoc text (member_line g i j) rest
+      ∙ ap (λ l. text ++ lines_of w run own g i l) (sym next) ∙ before
+
+  -- all jobs
+  pub members_all : (g i : ℕ) (text whole : List ℕ) → length jobs ≤ i
+      → text ++ lines_of w run own g i (drop i jobs) ≡ whole → text ≡ whole
+  members_all g i text whole past before = sym (append-nil text)
+      ∙ ap (λ l. text ++ lines_of w run own g i l) (sym (drop_all i jobs past)) ∙ before
+
+  module _ {V : Type 0} (f : V → List ℕ) (labels : List V) where
+    -- one group more
+    pub groups_more : (i : ℕ) (d : V) (label text headed longer whole : List ℕ) → i < length labels
+        → label ≡ f (get_or labels i d) → headed ≡ text ++ label_line label
+        → longer ≡ headed ++ lines_of w run own i 0 jobs
+        → text ++ group_lines w run own jobs i (drop i (map f labels)) ≡ whole
+        → longer ++ group_lines w run own jobs (i + 1) (drop (i + 1) (map f labels)) ≡ whole
+    groups_more i d label text headed longer whole there says heads grows before =
+        let rest = group_lines w run own jobs (i + 1) (drop (i + 1) (map f labels)) in
+        let next : drop i (map f labels) ≡ label ∷ drop (i + 1) (map f labels) =
+        drop-cons (map f labels) i label (omega (arith, there, length-map labels f))
+        ∙ ap (λ x. x ∷ drop (suc i) (map f labels)) (get_or-map f labels i d label there ∙ sym says)
+        ∙ ap (λ n. label ∷ drop n (map f labels)) (sym (add-one i)) in
+        ap (λ t. t ++ rest) (grows ∙ ap (λ t. t ++ lines_of w run own i 0 jobs) heads)
+        ∙ append_assoc (text ++ label_line label) (lines_of w run own i 0 jobs) rest
+        ∙ append_assoc text (label_line label) (lines_of w run own i 0 jobs ++ rest)
+        ∙ ap (λ t. text ++ t) (sym (append_assoc (label_line label) (lines_of w run own i 0 jobs) rest))
+        ∙ ap (λ l. text ++ group_lines w run own jobs i l) (sym next) ∙ before
+
+    -- all groups
+    pub groups_all : (i : ℕ) (text whole : List ℕ) → length labels ≤ i
+        → text ++ group_lines w run own jobs i (drop i (map f labels)) ≡ whole → text ≡ whole
+    groups_all i text whole past before = sym (append-nil text)
+        ∙ ap (λ l. text ++ group_lines w run own jobs i l)
+        (sym (drop_all i (map f labels) (omega (arith, past, length-map labels f)))) ∙ before
+
 -- its end
 pub value_line : (ending : Option Ending) (v : ℕ)
     → filled (codes " " ++ (loss_sign ending ++ codes "@\n")) (v ∷ [])
@@ -151,17 +202,18 @@ ended x s l d n = simp append_assoc
 
 -- ---- the picture
 
-module _ (k : Fraction) (run : List Event) (J : Instance) (of : IsRunOf k run J) (window : Option Window) (w : Window)
-    (jobs : List JobFacts) (lines : List (List ℕ)) where
+module _ (k : Fraction) (run : List Event) (J : Instance) (of : IsRunOf k run J) (window : Option Window)
+    (own : List ℕ) (labels : List Text) (w : Window) (jobs : List JobFacts) (lines : List (List ℕ)) where
   -- the whole text
   pub drawn : (o a b c : List ℕ) → jobs ≡ jobs_released run → w ≡ window_or window jobs → lines ≡ summary_lines J
-      → o ≡ [] → a ≡ o ++ summed_up lines → b ≡ a ++ frame w → c ≡ b ++ job_lines w run 0 jobs → c ≡ timeline window J
+      → o ≡ [] → a ≡ o ++ summed_up lines → b ≡ a ++ frame w → c ≡ b ++ all_lines w run own labels jobs
+      → c ≡ grouped_timeline window own labels J
   drawn o a b c released asked summed none first middle last =
       let same : jobs ≡ J.jobs = released ∙ jobs_are k run J of in
       let head : a ≡ summed_up (summary_lines J) = first ∙ ap (λ t. t ++ summed_up lines) none ∙ ap summed_up summed in
-      last ∙ ap (λ t. t ++ job_lines w run 0 jobs) (middle ∙ ap (λ t. t ++ frame w) head)
-      ∙ ap (λ (v : Window). summed_up (summary_lines J) ++ frame v ++ job_lines v run 0 jobs) asked
+      last ∙ ap (λ t. t ++ all_lines w run own labels jobs) (middle ∙ ap (λ t. t ++ frame w) head)
+      ∙ ap (λ (v : Window). summed_up (summary_lines J) ++ frame v ++ all_lines v run own labels jobs) asked
       ∙ ap (λ js. summed_up (summary_lines J) ++ frame (window_or window js)
-      ++ job_lines (window_or window js) run 0 js) same
+      ++ all_lines (window_or window js) run own labels js) same
       ∙ ap (λ es. summed_up (summary_lines J) ++ frame (window_or window J.jobs)
-      ++ job_lines (window_or window J.jobs) es 0 J.jobs) (sym of.prints)
+      ++ all_lines (window_or window J.jobs) es own labels J.jobs) (sym of.prints)

@@ -11,7 +11,7 @@ use Rattle.run_reports.proofs.report.WorkedRows.{with_a_factor}
 use Rattle.run_reports.specs.views.Templates.{filled}
 use Rattle.run_reports.specs.views.Chrome.{chrome}
 use Rattle.run_reports.specs.views.Why.{why, tested, greatest_ratio}
-use Rattle.run_reports.specs.views.Timeline.{timeline}
+use Rattle.run_reports.specs.views.Timeline.{grouped_timeline, timeline}
 
 -- a take over a running and a held job
 abbrev take_over : Instance
@@ -145,6 +145,20 @@ drawn_run : timeline None take_over ≡
     ++ codes "     2 !########### 12\n"
 unfolding digits filled
 drawn_run = refl
+
+-- the jobs in groups, of which the last has none
+drawn_groups : grouped_timeline None (0 ∷ 1 ∷ 0 ∷ []) (codes "first" ∷ codes "second" ∷ codes "third" ∷ []) take_over ≡
+    codes "jobs 3, completed 2 15, abandoned 1 2, taken 1, bound 60\n"
+    ++ codes "       ticks of a column: 1\n"
+    ++ codes "       0                   20\n"
+    ++ codes "first\n"
+    ++ codes "     0 ------------###............... 3\n"
+    ++ codes "     2 !########### 12\n"
+    ++ codes "second\n"
+    ++ codes "     1 --X. -2\n"
+    ++ codes "third\n"
+unfolding digits filled
+drawn_groups = refl
 
 -- in a window, of which a column has many ticks
 drawn_window : timeline (Some (record { from = 5; until = 1_000 })) take_over ≡

@@ -1,6 +1,7 @@
 -- A picture of a run for a terminal: the summary, a ruler, and a line for each job, with a sign for each column.
 use Rattle.std.specs.Prelude.{ℕ, zero, suc, ◌+◌, ◌-◌, ◌*◌, ◌/◌, min, max, List, [], ◌∷◌, ◌++◌, length, replicate, Bool}
-use Rattle.std.specs.Prelude.{false, not, ◌&&◌, nat_lt, nat_le, if◌then◌else◌, Option, Some, None, codes, decimal}
+use Rattle.std.specs.Prelude.{false, not, ◌&&◌, ◌==◌, nat_lt, nat_le, if◌then◌else◌, Option, Some, None, codes, decimal}
+use Rattle.std.specs.Prelude.{slice_index_or}
 use Rattle.std.specs.List.{list_any}
 use Rattle.dover_model.specs.declared.events.Event.{Event}
 use Rattle.dover_model.specs.Common.{Instance, JobFacts, summary_lines, last_deadline, printed}
@@ -142,21 +143,55 @@ abbrev pub job_line : Window → ℕ → JobFacts → List Stay → Option Endin
 job_line w n j stays ending =
     placed n ++ codes " " ++ signs w j stays ending ++ codes " " ++ loss_sign ending ++ decimal j.value ++ codes "\n"
 
+-- the line of a job of this run, if it meets the window
+abbrev pub job_line_at : Window → List Event → ℕ → JobFacts → Text
+job_line_at w run n j = if meets w j then job_line w n j (stays_of n run) (ending_in run n) else []
+
 -- the lines of these jobs, from number n on, that meet the window
 abbrev pub job_lines : Window → List Event → ℕ → List JobFacts → Text
 job_lines w run n [] = []
-job_lines w run n (j ∷ jobs) =
-    (if meets w j then job_line w n j (stays_of n run) (ending_in run n) else []) ++ job_lines w run (n + 1) jobs
+job_lines w run n (j ∷ jobs) = job_line_at w run n j ++ job_lines w run (n + 1) jobs
+
+-- ---- the lines of jobs in groups
+
+-- the job of this number is of this group: of the first one where none is given
+abbrev pub is_of : (of : List ℕ) → (n group : ℕ) → Bool
+is_of of n group = slice_index_or of n 0 == group
+
+-- the lines of the jobs of a group
+abbrev pub lines_of : Window → List Event → (of : List ℕ) → (group n : ℕ) → List JobFacts → Text
+lines_of w run of group n [] = []
+lines_of w run of group n (j ∷ jobs) =
+    (if is_of of n group then job_line_at w run n j else []) ++ lines_of w run of group (n + 1) jobs
+
+-- a label as a line
+abbrev pub label_line : Text → Text
+label_line label = label ++ codes "\n"
+
+-- the label of each group from this one on, and below it the lines of its jobs
+abbrev pub group_lines : Window → List Event → (of : List ℕ) → List JobFacts → (group : ℕ) → List Text → Text
+group_lines w run of jobs group [] = []
+group_lines w run of jobs group (label ∷ labels) = label_line label ++ lines_of w run of group 0 jobs
+    ++ group_lines w run of jobs (group + 1) labels
+
+-- the lines of all jobs, in groups where there are labels
+abbrev pub all_lines : Window → List Event → (of : List ℕ) → (labels : List Text) → List JobFacts → Text
+all_lines w run of [] jobs = job_lines w run 0 jobs
+all_lines w run of (label ∷ labels) jobs = group_lines w run of jobs 0 (label ∷ labels)
 
 -- ---- the picture
 
 -- of this window
-abbrev pub pictured : Window → Instance → Text
-pictured w J = summed_up (summary_lines J) ++ frame w ++ job_lines w (printed J) 0 J.jobs
+abbrev pub pictured : Window → (of : List ℕ) → (labels : List Text) → Instance → Text
+pictured w of labels J = summed_up (summary_lines J) ++ frame w ++ all_lines w (printed J) of labels J.jobs
 
--- the whole text
+-- the whole text, where the jobs are of these groups with these labels
+abbrev pub grouped_timeline : Option Window → (of : List ℕ) → (labels : List Text) → Instance → Text
+grouped_timeline window of labels J = pictured (window_or window J.jobs) of labels J
+
+-- the whole text, without groups
 abbrev pub timeline : Option Window → Instance → Text
-timeline window J = pictured (window_or window J.jobs) J
+timeline window J = grouped_timeline window [] [] J
 
 -- ---- the picture of a schedule, whichever policy made it
 

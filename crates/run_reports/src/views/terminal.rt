@@ -1,10 +1,11 @@
 //! A picture of a run for a terminal.
-ghost use Rattle.std.specs.Prelude.{◌≡◌, ◌≤◌, ◌<◌, ◌*◌, ◌^◌, ◌++◌, ◌∷◌, [], List, length, OnOk, IfOk, codes};
-ghost use Rattle.std.specs.Prelude.{if◌then◌else◌};
+ghost use Rattle.std.specs.Prelude.{◌≡◌, ◌≤◌, ◌<◌, ◌*◌, ◌^◌, ◌++◌, ◌∷◌, [], ℕ, List, length, map, OnOk, IfOk, codes};
+ghost use Rattle.std.specs.Prelude.{if◌then◌else◌, slice_index_or};
 ghost use Rattle.run_record.specs.intervals.Rows.{IsRunOf};
 ghost use Rattle.dover_model.specs.declared.events.Event.{Event};
 ghost use Rattle.dover_model.specs.Instance.{Instance};
 ghost use Rattle.run_reports.specs.report.Counts.{counts_lines};
+ghost use Rattle.run_reports.specs.report.Rows as rows;
 ghost use Rattle.run_reports.specs.views.Book.{Keeps};
 ghost use Rattle.run_reports.specs.views.Stays.{stays_of};
 ghost use Rattle.run_reports.specs.views.Timeline as picture;
@@ -34,13 +35,30 @@ pub fn timeline(
     ensures { (J : Instance) → IsRunOf k run.now J →
         IfOk result (λ written. written.items ≡ picture.timeline window J) }
 {
+    grouped_timeline(alloc, k, run, window, &[], &[])
+}
+
+/// The same picture with the jobs in groups, which are given by number for each job: the label of each group, and below
+/// it the lines of its jobs. Without labels there are no groups.
+pub fn grouped_timeline(
+    alloc: Global,
+    k: Ratio,
+    run: &[PackedEvent],
+    window: Option<Window>,
+    of: &[usize],
+    labels: &[Vec<u8>],
+) -> Result<Vec<u8>, Memory>
+    requires { (J : Instance) × IsRunOf k run.now J }
+    ensures { (J : Instance) → IsRunOf k run.now J → IfOk result (λ written. written.items
+        ≡ picture.grouped_timeline window of.now (map (λ label. label.items) labels.now) J) }
+{
     let charge = Charge::of(alloc, k, run)?;
     let jobs = released(alloc, run)?;
     let window = window_or(window, &jobs);
     let mut text = Vec::new(alloc);
     put_summary(&mut text, count(k, &charge))?;
     put_frame(&mut text, &window)?;
-    put_jobs(alloc, &mut text, &window, run, &jobs)?;
+    put_lines(alloc, &mut text, &window, run, &jobs, of, labels)?;
     Ok(text)
 }
 
@@ -151,6 +169,120 @@ fn put_padded(text: &mut Vec<u8>, number: u128) -> Result<(), Memory>
     let digits = buffer.format(number).as_bytes();
     text.extend_from_slice(digits)?;
     put_blanks(text, 20u64.saturating_sub(digits.len() as u64))
+}
+
+/// Appends the lines of the jobs that meet the window, or where there are labels, those of each group below its own.
+fn put_lines(
+    alloc: Global,
+    text: &mut Vec<u8>,
+    window: &Window,
+    run: &[PackedEvent],
+    jobs: &[Job],
+    of: &[usize],
+    labels: &[Vec<u8>],
+) -> Result<(), Memory>
+    ensures { OnOk result (text.new.items ≡ text.old.items
+        ++ picture.all_lines window.now run.now of.now (map (λ label. label.items) labels.now) jobs.now) }
+{
+    if labels.is_empty() {
+        return put_jobs(alloc, text, window, run, jobs);
+    }
+    put_groups(alloc, text, window, run, jobs, of, labels)
+}
+
+/// Appends the label of each group, and below it the lines of its jobs.
+fn put_groups(
+    alloc: Global,
+    text: &mut Vec<u8>,
+    window: &Window,
+    run: &[PackedEvent],
+    jobs: &[Job],
+    of: &[usize],
+    labels: &[Vec<u8>],
+) -> Result<(), Memory>
+    ensures { OnOk result (text.new.items ≡ text.old.items
+        ++ picture.group_lines window.now run.now of.now jobs.now 0 (map (λ label. label.items) labels.now)) }
+{
+    let places = endings(alloc, run, jobs.len())?;
+    let stays = Stays::of(alloc, run, jobs.len())?;
+    let mut own = Vec::new(alloc);
+    for group in 0..labels.len() {
+        put_label(text, &labels[group])?;
+        put_group(
+            text, window, run, jobs, &places, &stays, &mut own, of, group,
+        )?;
+    }
+    Ok(())
+}
+
+/// Appends a label as a line.
+fn put_label(text: &mut Vec<u8>, label: &[u8]) -> Result<(), Memory>
+    ensures { OnOk result (text.new.items ≡ text.old.items ++ picture.label_line label.now) }
+{
+    text.extend_from_slice(label)?;
+    text.extend_from_slice(b"\n")?;
+    Ok(())
+}
+
+/// Appends the lines of the jobs of a group that meet the window.
+fn put_group(
+    text: &mut Vec<u8>,
+    window: &Window,
+    run: &[PackedEvent],
+    jobs: &[Job],
+    places: &[usize],
+    stays: &Stays,
+    own: &mut Vec<Stay>,
+    of: &[usize],
+    group: usize,
+) -> Result<(), Memory>
+    requires places { length places.now ≡ length jobs.now }
+    requires endings { (n : ℕ) → n < length jobs.now → rows.ending_at run.now (slice_index_or places.now n 0)
+        ≡ rows.ending_in run.now n }
+    requires stays { length stays.now.firsts ≡ length jobs.now }
+    requires keeps { Keeps stays.now run.now }
+    ensures { OnOk result (text.new.items
+        ≡ text.old.items ++ picture.lines_of window.now run.now of.now group 0 jobs.now) }
+{
+    for (number, job) in jobs.iter().enumerate() {
+        let ending = ending_at(run, places[number]);
+        let member = is_of(of, number, group);
+        put_member(text, window, member, number, job, stays, own, ending)?;
+    }
+    Ok(())
+}
+
+/// Appends the line of a job where it is a member of the group and meets the window.
+fn put_member(
+    text: &mut Vec<u8>,
+    window: &Window,
+    member: bool,
+    number: usize,
+    job: &Job,
+    stays: &Stays,
+    own: &mut Vec<Stay>,
+    ending: Option<Ending>,
+) -> Result<(), Memory>
+    requires known { number < length stays.now.firsts }
+    requires keeps { (run : List Event) × Keeps stays.now run }
+    ensures { (run : List Event) → Keeps stays.now run → ending ≡ rows.ending_in run number →
+        OnOk result (text.new.items ≡ text.old.items
+        ++ (if member then picture.job_line_at window.now run number job.now else [])) }
+{
+    if !member {
+        return Ok(());
+    }
+    put_met(text, window, number, job, stays, own, ending)
+}
+
+/// The job of this number is of this group: of the first one where none is given.
+fn is_of(of: &[usize], number: usize, group: usize) -> bool
+    ensures { result ≡ picture.is_of of.now number group }
+{
+    match of.get(number) {
+        Some(given) => *given == group,
+        None => group == 0,
+    }
 }
 
 /// Appends the lines of the jobs that meet the window.
