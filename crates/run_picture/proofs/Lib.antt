@@ -1,6 +1,8 @@
 pub mod Around
 pub mod Eaching
 pub mod Going
+pub mod Grouping
+pub mod Heading
 pub mod Knowing
 pub mod Laning
 pub mod Lining

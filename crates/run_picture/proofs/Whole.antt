@@ -12,9 +12,9 @@ use Rattle.run_reports.specs.report.Counts.{counts_of, jobs_released}
 use Rattle.run_picture.specs.declared.frame.Totals.{Totals}
 use Rattle.run_reports.proofs.report.Counting.{jobs_are}
 use Rattle.run_reports.specs.views.Templates.{Text}
-use Rattle.run_picture.specs.Seen.{fresh, taking, done, gone, seen_at, told_of, with_step, told_by}
+use Rattle.run_picture.specs.Seen.{fresh, taking, done, gone, seen_at, told_of, with_step, told_by, grouped}
 use Rattle.run_picture.specs.Processor.{pieces_from}
-use Rattle.run_picture.specs.Pictures.{window_of, drawn, totals, picture}
+use Rattle.run_picture.specs.Pictures.{window_of, drawn, totals, grouped_picture}
 use Rattle.run_reports.specs.declared.views.window.Window.{Window}
 use Rattle.run_picture.specs.declared.seen.Seen.{Seen}
 
@@ -61,30 +61,34 @@ few_seen weighs run worths seen same are few = omega (
 
 -- what is drawn is the picture, where all that it is drawn from is that of the run
 pub pictured : (k : Fraction) (run : List Event) (J : Instance) → IsRunOf k run J → (asked : Option Window) (n : ℕ)
+    (own : List ℕ) (labels : List Text)
     (jobs : List JobFacts) (worths : List ℕ) (rows : List Interval) (value : ℕ) (c : Totals) (seen : List Seen)
     (pieces : List Piece) (w : Window) (b : Text)
     → jobs ≡ jobs_released run → worths ≡ weights J → rows ≡ rows_of J → value ≡ completed_value J
-    → c ≡ totals (counts_of k run jobs value) n → seen ≡ told_by true [] (zip run worths)
+    → c ≡ totals (counts_of k run jobs value) n → seen ≡ grouped own (told_by true [] (zip run worths))
     → pieces ≡ pieces_from None run
-    → w ≡ window_of asked jobs → b ≡ drawn 400 w c seen jobs run pieces rows → b ≡ picture asked n J
-pictured k run J of asked n jobs worths rows value c seen pieces w b released weighed charged adds counts tells runs
-    views last =
-    last ∙ ap (λ x. drawn 400 x c seen jobs run pieces rows) views
-    ∙ ap (λ x. drawn 400 (window_of asked jobs) x seen jobs run pieces rows) counts
-    ∙ ap (λ x. drawn 400 (window_of asked jobs) (totals (counts_of k run jobs value) n) x jobs run pieces rows) tells
-    ∙ ap (λ x. drawn 400 (window_of asked jobs) (totals (counts_of k run jobs value) n)
-    (told_by true [] (zip run worths))
-    jobs run x rows) runs
-    ∙ ap (λ x. drawn 400 (window_of asked jobs) (totals (counts_of k run jobs value) n)
-    (told_by true [] (zip run worths))
-    jobs run (pieces_from None run) x) charged
-    ∙ ap (λ x. drawn 400 (window_of asked jobs) (totals (counts_of k run jobs x) n) (told_by true [] (zip run worths))
-    jobs run (pieces_from None run) (rows_of J)) adds
-    ∙ ap (λ x. drawn 400 (window_of asked jobs) (totals (counts_of k run jobs (completed_value J)) n)
-    (told_by true [] (zip run x)) jobs run (pieces_from None run) (rows_of J)) weighed
-    ∙ ap (λ x. drawn 400 (window_of asked x) (totals (counts_of k run x (completed_value J)) n)
-    (told_by true [] (zip run (weights J))) x run (pieces_from None run) (rows_of J)) (released ∙ jobs_are k run J of)
-    ∙ ap (λ x. drawn 400 (window_of asked J.jobs) (totals (counts_of x run J.jobs (completed_value J)) n)
-    (told_by true [] (zip run (weights J))) J.jobs run (pieces_from None run) (rows_of J)) (sym of.ratio)
-    ∙ ap (λ x. drawn 400 (window_of asked J.jobs) (totals (counts_of J.rules.ratio x J.jobs (completed_value J)) n)
-    (told_by true [] (zip x (weights J))) J.jobs x (pieces_from None x) (rows_of J)) (sym of.prints)
+    → w ≡ window_of asked jobs → b ≡ drawn 400 w c labels seen jobs run pieces rows
+    → b ≡ grouped_picture asked n own labels J
+pictured k run J of asked n own labels jobs worths rows value c seen pieces w b released weighed charged adds counts
+    tells runs views last =
+    last ∙ ap (λ x. drawn 400 x c labels seen jobs run pieces rows) views
+    ∙ ap (λ x. drawn 400 (window_of asked jobs) x labels seen jobs run pieces rows) counts
+    ∙ ap (λ x. drawn 400 (window_of asked jobs) (title k run jobs value) labels x jobs run pieces rows) tells
+    ∙ ap (λ x. drawn 400 (window_of asked jobs) (title k run jobs value) labels (told run worths) jobs run x rows) runs
+    ∙ ap (λ x. drawn 400 (window_of asked jobs) (title k run jobs value) labels (told run worths) jobs run
+    (pieces_from None run) x) charged
+    ∙ ap (λ x. drawn 400 (window_of asked jobs) (title k run jobs x) labels (told run worths) jobs run
+    (pieces_from None run) (rows_of J)) adds
+    ∙ ap (λ x. drawn 400 (window_of asked jobs) (title k run jobs (completed_value J)) labels (told run x) jobs run
+    (pieces_from None run) (rows_of J)) weighed
+    ∙ ap (λ x. drawn 400 (window_of asked x) (title k run x (completed_value J)) labels (told run (weights J)) x run
+    (pieces_from None run) (rows_of J)) (released ∙ jobs_are k run J of)
+    ∙ ap (λ x. drawn 400 (window_of asked J.jobs) (title x run J.jobs (completed_value J)) labels (told run (weights J))
+    J.jobs run (pieces_from None run) (rows_of J)) (sym of.ratio)
+    ∙ ap (λ x. drawn 400 (window_of asked J.jobs) (title J.rules.ratio x J.jobs (completed_value J)) labels
+    (told x (weights J)) J.jobs x (pieces_from None x) (rows_of J)) (sym of.prints) where
+      title : Fraction → List Event → List JobFacts → ℕ → Totals
+      title l es js v = totals (counts_of l es js v) n
+
+      told : List Event → List ℕ → List Seen
+      told es ws = grouped own (told_by true [] (zip es ws))

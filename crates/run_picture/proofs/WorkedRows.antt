@@ -1,5 +1,5 @@
 -- Pictures, by computation.
-use Rattle.std.proofs.Common.{◌≡◌, true, [], ◌∷◌, ◌++◌, map, refl, codes, Some, None}
+use Rattle.std.proofs.Common.{◌≡◌, true, List, [], ◌∷◌, ◌++◌, map, zip, refl, codes, Some, None}
 use Rattle.std.specs.Fmt.{digits}
 use Rattle.dover_model.specs.Common.{Instance, printed}
 use Rattle.dover_model.proofs.rows.Written.{job, one}
@@ -7,7 +7,10 @@ use Rattle.run_reports.proofs.report.WorkedRows.{held_and_early, took_and_early}
 use Rattle.run_reports.specs.views.Moments.{moments}
 use Rattle.run_reports.specs.views.Templates.{filled}
 use Rattle.run_picture.specs.Processor.{pieces_from}
-use Rattle.run_picture.specs.Seen.{told_by, end_tick}
+use Rattle.run_picture.specs.Heads.{heads}
+use Rattle.run_picture.specs.Lanes.{laid_from, tops_from}
+use Rattle.run_picture.specs.Seen.{told_by, end_tick, grouped}
+use Rattle.run_picture.specs.declared.seen.Seen.{Seen}
 use Rattle.run_picture.specs.Legends.{texts_style, labels_style, bars_style, lines_style, texts_styles, paths_styles}
 use Rattle.run_picture.specs.Legends.{styles, legend_bars, legend_words, legend, load_legend, lanes_colors, lanes_words}
 use Rattle.run_picture.specs.Legends.{losses_words, lanes_legend}
@@ -17,6 +20,7 @@ use Rattle.run_picture.specs.Panels.{columns}
 use Rattle.run_picture.specs.Pictures.{bars_of, all_bars, strip, windows, holds_bars, lanes_bars, arrows_lines}
 use Rattle.run_picture.specs.Pictures.{crosses_lines, lanes_lines, lanes_of, ground_of, all_bands, under, under_load}
 use Rattle.run_picture.specs.Pictures.{middle_of, over, lanes_to, by_lanes, load, by_load, drawn, picture_by, picture}
+use Rattle.run_picture.specs.Pictures.{whole}
 
 -- a take over a running and a held job
 abbrev take_over : Instance
@@ -278,3 +282,21 @@ taken_pieces = refl
 -- and the ticks of their fates are those
 early_fates : map end_tick (told_by true [] (moments took_and_early)) ≡ 6 ∷ 3 ∷ 1 ∷ []
 early_fates = refl
+
+-- two jobs of one group stand above that of another, and a third group without a job has a row of its own
+in_groups : List Seen
+in_groups = grouped (0 ∷ 1 ∷ 0 ∷ []) (told_by true [] (moments take_over))
+
+group_rows : map (λ s. s.row) (laid_from (whole take_over.jobs) 0 0 3 in_groups) ≡ 0 ∷ 2 ∷ 1 ∷ []
+group_rows = refl
+
+group_tops : tops_from (whole take_over.jobs) 0 0 3 in_groups ≡ 0 ∷ 2 ∷ 3 ∷ 4 ∷ []
+group_tops = refl
+
+-- their labels, of which the last has more than ten letters
+group_heads : heads 18 (zip (codes "first" ∷ codes "second" ∷ codes "eleventimes" ∷ []) (0 ∷ 2 ∷ 3 ∷ 4 ∷ [])) ≡
+    codes "<text class='r' x='82' y='124'>first</text>\n"
+    ++ codes "<text class='r' x='82' y='160'>second</text>\n"
+    ++ codes "<text class='s r' x='82' y='178' textLength='80' lengthAdjust='spacingAndGlyphs'>eleventimes</text>\n"
+unfolding digits filled
+group_heads = refl

@@ -3,6 +3,7 @@ pub mod Plot
 pub mod Seen
 pub mod Processor
 pub mod Lanes
+pub mod Heads
 pub mod Strip
 pub mod Windows
 pub mod Labels

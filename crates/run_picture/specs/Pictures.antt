@@ -1,6 +1,6 @@
 -- The picture of a run, as SVG in whole pixels: what a window of ticks shows of the processor, the jobs and the values.
 use Rattle.std.specs.Prelude.{ℕ, ◌+◌, ◌-◌, ◌*◌, ◌/◌, min, List, [], ◌∷◌, ◌++◌, length, Bool, true, false, nat_le, codes}
-use Rattle.std.specs.Prelude.{if◌then◌else◌, Option, Some, None}
+use Rattle.std.specs.Prelude.{◌&&◌, if◌then◌else◌, Option, Some, None, zip}
 use Rattle.dover_model.specs.declared.events.Event.{Event}
 use Rattle.dover_model.specs.declared.pieces.Piece.{Piece}
 use Rattle.dover_model.specs.Common.{JobFacts, Instance, last_tick_in, printed, completed_value, last_deadline}
@@ -12,9 +12,10 @@ use Rattle.run_reports.specs.report.Fates.{fates_of}
 use Rattle.run_reports.specs.declared.report.counts.Counts.{Counts}
 use Rattle.run_reports.specs.views.Moments.{moments}
 use Rattle.run_reports.specs.views.Templates.{Text, filled}
-use Rattle.run_picture.specs.Seen.{told_by, told_plainly}
+use Rattle.run_picture.specs.Seen.{told_by, told_plainly, grouped}
 use Rattle.run_picture.specs.Processor.{pieces_from}
-use Rattle.run_picture.specs.Lanes.{shown, lanes_from, height, unit_of}
+use Rattle.run_picture.specs.Lanes.{shown, laid_from, tops_from, height, unit_of}
+use Rattle.run_picture.specs.Heads.{heads}
 use Rattle.run_picture.specs.Strip.{piece_bars, piece_numbers}
 use Rattle.run_picture.specs.Windows.{job_windows}
 use Rattle.run_picture.specs.Labels.{labels}
@@ -55,10 +56,9 @@ strip w least lanes pieces = strip_border ++ all_bars (record { window = w; unit
 
 -- ---- the lanes
 
--- the word beside the lanes, and the front of bars so high
+-- the front of bars so high
 abbrev pub lanes_front : (high : ℕ) → Text
-lanes_front high = codes "<text class='r' x='82' y='124'>jobs</text>\n"
-    ++ filled (codes "<g class='w' stroke-width='@'>\n") (high ∷ [])
+lanes_front high = filled (codes "<g class='w' stroke-width='@'>\n") (high ∷ [])
 
 -- the jobs' windows
 unfoldable pub windows : Window → (unit : ℕ) → List Seen → Text
@@ -113,25 +113,34 @@ under w t bottom rows = ground_of w t bottom ++ lanes_legend_of t ++ all_bands w
 unfoldable pub under_load : Window → Totals → List Interval → Text
 under_load w t rows = ground_of w t 474 ++ load_legend_of t ++ all_bands w 0 474 rows
 
--- the processor and the lanes
-unfoldable pub middle_of : Window → (unit : ℕ) → List Seen → List Event → List Piece → Text
-middle_of w unit lanes run pieces = strip w 1 lanes pieces ++ lanes_of w unit lanes run pieces
+-- the processor, the labels of the groups, and the lanes
+unfoldable pub middle_of : Window → (unit : ℕ) → List (Text × ℕ) → List Seen → List Event → List Piece → Text
+middle_of w unit labels_tops lanes run pieces = strip w 1 lanes pieces ++ heads unit labels_tops
+    ++ lanes_of w unit lanes run pieces
 
 -- the values, and the end
 unfoldable pub over : Window → (coarse : Bool) → (bottom : ℕ) → List JobFacts → List Event → Text
 over w coarse bottom jobs run = values w coarse bottom jobs run ++ codes "</svg>\n"
 
 -- lanes, where rows are so high and the panel of values ends at this pixel
-unfoldable pub lanes_to : Window → Totals → (unit bottom : ℕ) → List Seen → List JobFacts → List Event → List Piece
-    → List Interval → Text
-lanes_to w t unit bottom lanes jobs run pieces rows = under w t bottom rows ++ middle_of w unit lanes run pieces
-    ++ over w false bottom jobs run
+unfoldable pub lanes_to : Window → Totals → (unit bottom : ℕ) → List (Text × ℕ) → List Seen → List JobFacts
+    → List Event → List Piece → List Interval → Text
+lanes_to w t unit bottom labels_tops lanes jobs run pieces rows = under w t bottom rows
+    ++ middle_of w unit labels_tops lanes run pieces ++ over w false bottom jobs run
 
--- a lane for each job that the window shows
-unfoldable pub by_lanes : Window → Totals → List Seen → List JobFacts → List Event → List Piece → List Interval → Text
-by_lanes w t lanes jobs run pieces rows =
-    let unit = unit_of (height lanes) in
-    lanes_to w t unit (236 + unit * height lanes) lanes jobs run pieces rows
+-- a lane for each job that the window shows, and the labels of the groups, whose first rows these are
+unfoldable pub by_lanes : Window → Totals → List Text → (tops : List ℕ) → List Seen → List JobFacts → List Event
+    → List Piece → List Interval → Text
+by_lanes w t labels tops lanes jobs run pieces rows =
+    let unit = unit_of (length labels) (height tops) in
+    lanes_to w t unit (236 + unit * height tops) (zip labels tops) lanes jobs run pieces rows
+
+-- the same, with the groups one below the other
+abbrev pub by_groups : Window → Totals → List Text → List Seen → List JobFacts → List Event → List Piece
+    → List Interval → Text
+by_groups w t labels seen jobs run pieces rows =
+    let count = length labels in
+    by_lanes w t labels (tops_from w 0 0 count seen) (laid_from w 0 0 count seen) jobs run pieces rows
 
 -- the processor, the ready jobs, and the values by column
 unfoldable pub load : Window → List Seen → List JobFacts → List Event → List Piece → Text
@@ -146,11 +155,15 @@ by_load w t lanes jobs run pieces rows = under_load w t rows ++ load w lanes job
 abbrev pub fitting : (lanes load : Text) → Text
 fitting lanes load = if nat_le (length lanes) 75_000 then lanes else load
 
--- the same where the window shows so many jobs at most, and else the load
-unfoldable pub drawn : (most : ℕ) → Window → Totals → List Seen → List JobFacts → List Event → List Piece
+-- the window shows so many jobs at most, and there are no more groups
+abbrev pub has_lanes : (most : ℕ) → Window → (groups : ℕ) → List Seen → Bool
+has_lanes most w groups seen = nat_le (shown w seen) most && nat_le groups most
+
+-- lanes where there are so few jobs and groups, and else the load
+unfoldable pub drawn : (most : ℕ) → Window → Totals → List Text → List Seen → List JobFacts → List Event → List Piece
     → List Interval → Text
-drawn most w t seen jobs run pieces rows = if nat_le (shown w seen) most
-    then fitting (by_lanes w t (lanes_from w [] seen) jobs run pieces rows)
+drawn most w t labels seen jobs run pieces rows = if has_lanes most w (length labels) seen
+    then fitting (by_groups w t labels seen jobs run pieces rows)
     (by_load w t seen jobs run pieces rows)
     else by_load w t seen jobs run pieces rows
 
@@ -168,11 +181,25 @@ window_of (Some w) jobs =
 abbrev pub totals : Counts → (refused : ℕ) → Totals
 totals c refused = OfRun c refused
 
--- the picture of a run with so many refused lines, with lanes for so many jobs at most
+-- the picture of a run with so many refused lines, whose jobs are of these groups with these labels, with lanes for so
+-- many jobs at most
+abbrev pub grouped_picture_by : (most : ℕ) → Option Window → (refused : ℕ) → (of : List ℕ) → (labels : List Text)
+    → Instance → Text
+grouped_picture_by most asked refused of labels J = drawn most (window_of asked J.jobs)
+    (totals (counts_of J.rules.ratio (printed J) J.jobs (completed_value J)) refused) labels
+    (grouped of (told_by true [] (moments J))) J.jobs (printed J) (pieces_from None (printed J)) (rows_of J)
+
+-- the picture
+abbrev pub grouped_picture : Option Window → (refused : ℕ) → (of : List ℕ) → (labels : List Text) → Instance → Text
+grouped_picture asked refused of labels J = grouped_picture_by 400 asked refused of labels J
+
+-- the one group of a picture that isn't by groups
+abbrev pub jobs_label : List Text
+jobs_label = codes "jobs" ∷ []
+
+-- the picture where all jobs are of one group, with lanes for so many at most
 abbrev pub picture_by : (most : ℕ) → Option Window → (refused : ℕ) → Instance → Text
-picture_by most asked refused J = drawn most (window_of asked J.jobs)
-    (totals (counts_of J.rules.ratio (printed J) J.jobs (completed_value J)) refused)
-    (told_by true [] (moments J)) J.jobs (printed J) (pieces_from None (printed J)) (rows_of J)
+picture_by most asked refused J = grouped_picture_by most asked refused [] jobs_label J
 
 -- the picture
 abbrev pub picture : Option Window → (refused : ℕ) → Instance → Text
@@ -182,7 +209,7 @@ picture asked refused J = picture_by 400 asked refused J
 abbrev pub schedule_picture_by : (most : ℕ) → Option Window → List Event → Text
 schedule_picture_by most asked run =
     let jobs = jobs_released run in
-    drawn most (window_of asked jobs) (OfSchedule (fates_of jobs run)) (told_plainly run) jobs run
+    drawn most (window_of asked jobs) (OfSchedule (fates_of jobs run)) jobs_label (told_plainly run) jobs run
     (pieces_from None run) []
 
 -- the picture

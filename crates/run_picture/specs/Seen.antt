@@ -20,6 +20,7 @@ fresh weighs n j = record {
   weighs = weighs;
   against = 0;
   ending = None;
+  group = 0;
   row = 0;
 }
 
@@ -35,6 +36,7 @@ nobody = record {
   weighs = false;
   against = 0;
   ending = None;
+  group = 0;
   row = 0;
 }
 
@@ -74,6 +76,12 @@ told_by weighs seen (e_w ∷ more) = told_by weighs (with_step weighs seen e_w.0
 -- what the steps of a schedule tell, whichever policy made it: no job is weighed
 abbrev pub told_plainly : List Event → List Seen
 told_plainly run = told_by false [] (zip run (replicate (length run) 0))
+
+-- these jobs are of these groups; those for which none is given stay in the first one
+abbrev pub grouped : List ℕ → List Seen → List Seen
+grouped [] seen = seen
+grouped (g ∷ of) [] = []
+grouped (g ∷ of) (s ∷ seen) = record s { group = g } ∷ grouped of seen
 
 -- the tick at which it ended, or this one
 abbrev pub ended_at : ℕ → Option Ending → ℕ

@@ -1,18 +1,19 @@
 //! The picture as a whole.
-ghost use Rattle.std.specs.Prelude.{◌≡◌, ◌≤◌, ◌+◌, ◌++◌, ◌^◌, length, OnOk, IfOk, Option};
+ghost use Rattle.std.specs.Prelude.{◌≡◌, ◌≤◌, ◌<◌, ◌+◌, ◌++◌, ◌^◌, length, map, zip, OnOk, IfOk, Option, codes};
 ghost use Rattle.run_record.specs.intervals.Rows.{IsRunOf};
 ghost use Rattle.dover_model.specs.Common.{Instance, last_tick};
 ghost use Rattle.run_picture.specs.Pictures as pictures;
 
 use crate::frame::{Totals, put_axis, put_band_words, put_bands, put_page};
+use crate::heads::put_heads;
 use crate::labels::put_labels;
-use crate::lanes::{height, lanes, shown, unit_of};
+use crate::lanes::{height, lay, shown, unit_of};
 use crate::legends::{put_lanes_legend, put_load_legend};
 use crate::marks::{put_arrows, put_crosses, put_holds};
 use crate::panels::{put_columns, put_ready, put_values};
 use crate::plot::{Window, put_text};
 use crate::processor::pieces;
-use crate::seen::{Seen, told_by, told_plainly};
+use crate::seen::{Seen, told_in_groups, told_plainly};
 use crate::strip::{Bars, put_numbers, put_pieces};
 use crate::windows::put_windows;
 use dover_model::{Job, Memory, PackedEvent, Piece, Ratio, Version};
@@ -37,18 +38,47 @@ pub fn picture(
     ensures { (J : Instance) → IsRunOf k run.now J → IfOk result
         (λ written. written.items ≡ pictures.picture asked refused J) }
 {
+    let label = jobs_label(alloc)?;
+    grouped_picture(alloc, k, run, refused, asked, &[], &[label])
+}
+
+/// The label of the jobs where they aren't in groups.
+fn jobs_label(alloc: Global) -> Result<Vec<u8>, Memory>
+    ensures { IfOk result (λ label. label.items ≡ codes "jobs") }
+{
+    let mut label = Vec::new(alloc);
+    put_text(&mut label, b"jobs")?;
+    Ok(label)
+}
+
+/// The same picture with the jobs in groups, which are given by number for each job. The lanes of a group stand below
+/// those of the group before, with its label beside them, and above 400 groups the load is shown.
+pub fn grouped_picture(
+    alloc: Global,
+    k: Ratio,
+    run: &[PackedEvent],
+    refused: u64,
+    asked: Option<Window>,
+    of: &[usize],
+    labels: &[Vec<u8>],
+) -> Result<Vec<u8>, Memory>
+    requires { (J : Instance) × IsRunOf k run.now J }
+    ensures { (J : Instance) → IsRunOf k run.now J → IfOk result (λ written. written.items
+        ≡ pictures.grouped_picture asked refused of.now (map (λ label. label.items) labels.now) J) }
+{
     let jobs = released(alloc, run)?;
     let worths = weights(alloc, k, run)?;
     let charge = Charge::of(alloc, k, run)?;
     let counts = count(k, &charge);
     let totals = Totals::OfRun(counts, refused);
-    let seen = told_by(alloc, true, run, &worths)?;
+    let seen = told_in_groups(alloc, run, &worths, of)?;
     let pieces = pieces(alloc, run)?;
     let window = window_of(asked, &jobs);
     drawn(
         alloc,
         window,
         &totals,
+        labels,
         &seen,
         &jobs,
         run,
@@ -73,7 +103,18 @@ pub fn schedule_picture(
     let pieces = pieces(alloc, run)?;
     let window = window_of(asked, &jobs);
     let rows = Vec::new(alloc);
-    drawn(alloc, window, &totals, &seen, &jobs, run, &pieces, &rows)
+    let label = jobs_label(alloc)?;
+    drawn(
+        alloc,
+        window,
+        &totals,
+        &[label],
+        &seen,
+        &jobs,
+        run,
+        &pieces,
+        &rows,
+    )
 }
 
 /// The window that is asked for, up to the last tick of version Two, or all of the run.
@@ -93,12 +134,14 @@ fn window_of(asked: Option<Window>, jobs: &[Job]) -> Window
     }
 }
 
-/// Lanes where the window shows at most 400 jobs and they take at most 75,000 bytes, and else the load.
+/// Lanes where the window shows at most 400 jobs, they are in no more groups, and they take at most 75,000 bytes, and
+/// else the load.
 #[tactic(auto, unfolding(crate::specs::Pictures::drawn))]
 fn drawn(
     alloc: Global,
     window: Window,
     totals: &Totals,
+    labels: &[Vec<u8>],
     seen: &[Seen],
     jobs: &[Job],
     run: &[PackedEvent],
@@ -108,19 +151,53 @@ fn drawn(
     requires steps { length run.now ≤ 5_000_001 }
     requires jobs { length seen.now ≤ 5_000_001 }
     requires from { window.from ≤ last_tick + 1 }
-    ensures { IfOk result (λ text. text.items
-        ≡ pictures.drawn 400 window totals.now seen.now jobs.now run.now pieces.now rows.now) }
+    ensures { IfOk result (λ text. text.items ≡ pictures.drawn 400 window totals.now
+        (map (λ label. label.items) labels.now) seen.now jobs.now run.now pieces.now rows.now) }
 {
-    if shown(window, seen) > 400 {
+    if !has_lanes(window, labels.len(), seen) {
         return loaded(alloc, window, totals, seen, jobs, run, pieces, rows);
     }
-    let lanes = lanes(alloc, window, seen)?;
-    let mut text = Vec::new(alloc);
-    put_by_lanes(&mut text, window, totals, &lanes, jobs, run, pieces, rows)?;
+    let text = by_groups(alloc, window, totals, labels, seen, jobs, run, pieces, rows)?;
     if text.len() <= 75_000 {
         return Ok(text);
     }
     loaded(alloc, window, totals, seen, jobs, run, pieces, rows)
+}
+
+/// The window shows at most 400 jobs, and there are no more groups.
+fn has_lanes(window: Window, groups: usize, seen: &[Seen]) -> bool
+    ensures { result ≡ pictures.has_lanes 400 window groups seen.now }
+{
+    shown(window, seen) <= 400 && groups <= 400
+}
+
+/// Lanes, with the groups one below the other.
+fn by_groups(
+    alloc: Global,
+    window: Window,
+    totals: &Totals,
+    labels: &[Vec<u8>],
+    seen: &[Seen],
+    jobs: &[Job],
+    run: &[PackedEvent],
+    pieces: &[Piece],
+    rows: &[Interval],
+) -> Result<Vec<u8>, Memory>
+    requires groups { length labels.now ≤ 400 }
+    requires steps { length run.now ≤ 5_000_001 }
+    requires jobs { length seen.now ≤ 5_000_001 }
+    requires from { window.from ≤ last_tick + 1 }
+    ensures { IfOk result (λ text. text.items ≡ pictures.by_groups window totals.now
+        (map (λ label. label.items) labels.now) seen.now jobs.now run.now pieces.now rows.now) }
+{
+    let mut lanes = Vec::new(alloc);
+    lanes.extend_from_slice(seen)?;
+    let tops = lay(alloc, window, labels.len(), &mut lanes)?;
+    let mut text = Vec::new(alloc);
+    put_by_lanes(
+        &mut text, window, totals, labels, &tops, &lanes, jobs, run, pieces, rows,
+    )?;
+    Ok(text)
 }
 
 /// The load.
@@ -144,27 +221,31 @@ fn loaded(
     Ok(text)
 }
 
-/// Appends a picture with a lane for each job that the window shows.
+/// Appends a picture with a lane for each job that the window shows, where the groups have these labels and first rows.
 fn put_by_lanes(
     text: &mut Vec<u8>,
     window: Window,
     totals: &Totals,
+    labels: &[Vec<u8>],
+    tops: &[u32],
     lanes: &[Seen],
     jobs: &[Job],
     run: &[PackedEvent],
     pieces: &[Piece],
     rows: &[Interval],
 ) -> Result<(), Memory>
+    requires all { length labels.now < length tops.now }
     requires steps { length run.now ≤ 5_000_001 }
     requires from { window.from ≤ last_tick + 1 }
-    ensures { OnOk result (text.new.items
-        ≡ text.old.items ++ pictures.by_lanes window totals.now lanes.now jobs.now run.now pieces.now rows.now) }
+    ensures { OnOk result (text.new.items ≡ text.old.items ++ pictures.by_lanes window totals.now
+        (map (λ label. label.items) labels.now) tops.now lanes.now jobs.now run.now pieces.now rows.now) }
 {
-    let high = height(lanes);
-    let unit = unit_of(high);
+    let high = height(tops);
+    let unit = unit_of(labels.len(), high);
     let bottom = 236 + unit * high;
     put_under(text, window, totals, bottom, rows)?;
     put_strip(text, window, 1, lanes, pieces)?;
+    put_heads(text, unit, labels, tops)?;
     put_lanes(text, window, unit, lanes, run, pieces)?;
     put_over(text, window, false, bottom, jobs, run)
 }

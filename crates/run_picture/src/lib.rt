@@ -4,6 +4,7 @@
 mod columns;
 mod drawing;
 mod frame;
+mod heads;
 mod labels;
 mod lanes;
 mod legends;
@@ -18,4 +19,4 @@ mod sizes;
 mod strip;
 mod windows;
 
-pub use drawing::{picture, schedule_picture};
+pub use drawing::{grouped_picture, picture, schedule_picture};

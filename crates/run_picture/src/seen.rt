@@ -1,5 +1,5 @@
 //! What the steps of a run tell of each job.
-ghost use Rattle.std.specs.Prelude.{◌≡◌, ◌≤◌, ◌++◌, ℕ, length, OnOk, IfOk, [], zip, replicate};
+ghost use Rattle.std.specs.Prelude.{◌≡◌, ◌≤◌, ◌++◌, ℕ, length, OnOk, IfOk, [], zip, replicate, true};
 ghost use Rattle.run_picture.specs.Seen as tell;
 
 use dover_model::{Event, Job, Memory, PackedEvent};
@@ -27,6 +27,8 @@ pub struct Seen {
     pub against: u64,
     /// How it ended, None where these steps end it nowhere.
     pub ending: Option<Ending>,
+    /// The number of its group, whose jobs stand together.
+    pub group: usize,
     /// Its row in the picture, from 0 on.
     pub row: u32,
 }
@@ -46,6 +48,30 @@ pub fn told_by(
     for (index, event) in run.iter().enumerate() {
         put_step(&mut seen, weighs, event, worths[index])?;
     }
+    Ok(seen)
+}
+
+/// These jobs are of these groups, the first ones where there are fewer groups.
+fn put_groups(seen: &mut [Seen], of: &[usize])
+    ensures { seen.new ≡ tell.grouped of.now seen.old }
+{
+    for index in 0..seen.len().min(of.len()) {
+        seen[index].group = of[index];
+    }
+}
+
+/// The same of steps where jobs are weighed, and the jobs are of these groups.
+pub fn told_in_groups(
+    alloc: Global,
+    run: &[PackedEvent],
+    worths: &[u64],
+    of: &[usize],
+) -> Result<Vec<Seen>, Memory>
+    requires same { length worths.now ≡ length run.now }
+    ensures { IfOk result (λ seen. seen.items ≡ tell.grouped of.now (tell.told_by true [] (zip run.now worths.now))) }
+{
+    let mut seen = told_by(alloc, true, run, worths)?;
+    put_groups(&mut seen, of);
     Ok(seen)
 }
 
@@ -99,6 +125,7 @@ fn fresh(weighs: bool, number: u32, job: &Job) -> Seen
         weighs,
         against: 0,
         ending: None,
+        group: 0,
         row: 0,
     }
 }
@@ -127,6 +154,7 @@ fn nobody() -> Seen
         weighs: false,
         against: 0,
         ending: None,
+        group: 0,
         row: 0,
     }
 }

@@ -10,7 +10,7 @@ use dover_model::Memory;
 use run_reports::report::endings::Ending;
 use run_reports::views::template::put;
 
-/// Appends the word beside the lanes, and the windows of the jobs that the window of the picture shows.
+/// Appends the windows of the jobs that the window of the picture shows.
 pub fn put_windows(
     text: &mut Vec<u8>,
     window: Window,
@@ -21,11 +21,7 @@ pub fn put_windows(
     ensures { OnOk result (text.new.items ≡ text.old.items ++ pictures.windows window unit lanes.now) }
 {
     let high = unit.saturating_sub(3);
-    put(
-        text,
-        b"<text class='r' x='82' y='124'>jobs</text>\n<g class='w' stroke-width='@'>\n",
-        &[high],
-    )?;
+    put(text, b"<g class='w' stroke-width='@'>\n", &[high])?;
     for lane in lanes {
         put_job(text, window, unit, lane)?;
     }
