@@ -6,3 +6,4 @@ pub mod Told
 pub mod Chosen
 pub mod Counted
 pub mod Parts
+pub mod Labels

@@ -21,14 +21,17 @@ use Rattle.task_words.proofs.reading.Ending.{going_stands}
 use Rattle.task_report.specs.Behind.{behind}
 use Rattle.task_report.specs.Talk.{task_report_talk}
 use Rattle.task_report.specs.Talk as talk
-use Rattle.task_report.specs.Talking.{Costs, IsReady}
+use Rattle.task_report.specs.Talking.{Call, Costs, IsReady}
+use Rattle.task_report.specs.declared.form.TaskForm.{TaskForm}
 use Rattle.task_report.proofs.Behind.{none_behind, past}
 use Rattle.task_report.proofs.Talking.{account_stays, behind_more, behind_open, costs_behind, more_at}
 
 -- of no bytes
-pub ready_none : (reader : TaskReader) (judge : Judged) (start : ℕ) → StandsFor 0 reader [] → judging.StandsFor judge []
-    → ((now : ℕ) → HasPaidFor judge [] now now) → keeps judge ≡ true → IsReady start reader judge start []
-ready_none reader judge start reads judges paid kept = record {
+pub ready_none : (reader : TaskReader) (judge : Judged) (call : Call) → StandsFor 0 reader []
+    → judging.StandsFor judge [] → ((now : ℕ) → HasPaidFor judge [] now now) → keeps judge ≡ true
+    → IsReady call call.form reader judge call.start []
+ready_none reader judge call reads judges paid kept = record {
+  asks = refl;
   front = [];
   cut = refl;
   same = refl;
@@ -36,12 +39,12 @@ ready_none reader judge start reads judges paid kept = record {
   few = omega arith;
   all = λ opened. refl;
   judges = judges;
-  paid = paid start;
+  paid = paid call.start;
   keeps_steps = kept;
 }
 
-module _ (start : ℕ) (reader : TaskReader) (judge : Judged) (steps : ℕ) (x : List ℕ)
-    (at : IsReady start reader judge steps x) where
+module _ (call : Call) (form : TaskForm) (reader : TaskReader) (judge : Judged) (steps : ℕ) (x : List ℕ)
+    (at : IsReady call form reader judge steps x) where
   -- what was read so far goes on, or doesn't, as its front does
   pub front_test : is_open (account 0 x) ≡ is_open (account 0 at.front)
   front_test = ap is_open at.same
@@ -61,8 +64,8 @@ module _ (start : ℕ) (reader : TaskReader) (judge : Judged) (steps : ℕ) (x :
     by (Faulty line cause) is it = never it
 
   -- what it cost is allowed
-  pub spent : Costs start steps x
-  spent = costs_few judge (behind x) start steps at.paid
+  pub spent : Costs call.start steps x
+  spent = costs_few judge (behind x) call.start steps at.paid
 
   -- ---- the task text
 
@@ -93,8 +96,9 @@ module _ (start : ℕ) (reader : TaskReader) (judge : Judged) (steps : ℕ) (x :
       stays : behind x ≡ behind (x ++ take n piece)
       stays = behind_open x opened ∙ sym none
 
-      ready_front : IsReady start new judge steps (x ++ take n piece)
+      ready_front : IsReady call form new judge steps (x ++ take n piece)
       ready_front = record {
+        asks = at.asks;
         front = x ++ take n piece;
         cut = sym (append-nil (x ++ take n piece)) ∙ ap (λ z. (x ++ take n piece) ++ z) (sym none);
         same = refl;
@@ -102,21 +106,22 @@ module _ (start : ℕ) (reader : TaskReader) (judge : Judged) (steps : ℕ) (x :
         few = omega (arith, short, length-append x (take n piece), size, line);
         all = λ on. none;
         judges = subst (λ z. judging.StandsFor judge z) stays at.judges;
-        paid = subst (λ z. HasPaidFor judge z start steps) stays at.paid;
+        paid = subst (λ z. HasPaidFor judge z call.start steps) stays at.paid;
         keeps_steps = at.keeps_steps;
       }
 
-      pub takes_front : Takes task_report_talk (AllGiven (IsReady start new judge steps)) x piece n
+      pub takes_front : Takes (task_report_talk call.form) (AllGiven (IsReady call form new judge steps)) x piece n
       takes_front = (takes.0, takes.1, ([], refl, (ready_front, refl)))
 
     -- or there was no memory for it
     pub takes_by : {E : Type 0} (piece : List ℕ) (new : TaskReader) (r : Result ℕ E)
         → IfOk r (λ n. TakesFront 0 new x piece n) → IfOk r (λ n. n ≤ 129)
         → IfOk r (λ n. (k : ℕ) → k < n → is_open (account 0 (x ++ take k piece)) ≡ true)
-        → TakesBy task_report_talk (AllGiven (IsReady start new judge steps)) (Costs start steps) x piece r
+        → TakesBy (task_report_talk call.form) (AllGiven (IsReady call form new judge steps)) (Costs call.start steps) x
+        piece r
     takes_by piece new (Ok n) takes line fronts = takes_front piece new n takes line fronts
     takes_by piece new (Err e) takes line fronts =
-        ((λ ended. absurd (let e : false ≡ true = ended in cc)), costs_behind start steps x piece spent)
+        ((λ ended. absurd (let e : false ≡ true = ended in cc)), costs_behind call.start steps x piece spent)
 
   -- ---- the trace
 
@@ -126,8 +131,9 @@ module _ (start : ℕ) (reader : TaskReader) (judge : Judged) (steps : ℕ) (x :
     goes : behind x ++ piece ≡ behind (x ++ piece)
     goes = sym (behind_more x piece closed)
 
-    pub ready_more : Fed judge new piece → IsReady start reader new after (x ++ piece)
+    pub ready_more : Fed judge new piece → IsReady call form reader new after (x ++ piece)
     ready_more fed = record {
+      asks = at.asks;
       front = at.front;
       cut = ap (λ z. z ++ piece) at.cut ∙ append_assoc at.front (behind x) piece ∙ ap (λ z. at.front ++ z) goes;
       same = account_stays x piece closed ∙ at.same;
@@ -135,11 +141,11 @@ module _ (start : ℕ) (reader : TaskReader) (judge : Judged) (steps : ℕ) (x :
       few = at.few;
       all = λ on. never (sym closed ∙ front_test ∙ on);
       judges = subst (λ z. judging.StandsFor new z) goes (fed.stands (behind x) at.judges);
-      paid = subst (λ z. HasPaidFor new z start after) goes (pays (behind x) start at.judges at.paid);
+      paid = subst (λ z. HasPaidFor new z call.start after) goes (pays (behind x) call.start at.judges at.paid);
       keeps_steps = fed.keep ∙ at.keeps_steps;
     }
 
     -- also where there was no memory for it
-    pub spent_more : Costs start after (x ++ piece)
-    spent_more = subst (λ z. CostsAtMost (jobs_named z) start after) goes
-        (costs_few new (behind x ++ piece) start after (pays (behind x) start at.judges at.paid))
+    pub spent_more : Costs call.start after (x ++ piece)
+    spent_more = subst (λ z. CostsAtMost (jobs_named z) call.start after) goes
+        (costs_few new (behind x ++ piece) call.start after (pays (behind x) call.start at.judges at.paid))

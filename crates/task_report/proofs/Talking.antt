@@ -19,6 +19,7 @@ use Rattle.task_report.specs.Behind.{behind}
 use Rattle.task_report.specs.Talk.{IsSaid, SaysReport, task_report_talk}
 use Rattle.task_report.specs.Talk as talk
 use Rattle.task_report.specs.Talking.{Costs}
+use Rattle.task_report.specs.declared.form.TaskForm.{TaskForm}
 use Rattle.task_report.proofs.Behind.{all_behind, past}
 
 -- whether more is to be read behind these bytes
@@ -46,20 +47,29 @@ goes_open x opened = by (account 0 x).standing opened where
   by (Faulty line cause) it = it
 
 -- what is said of a trace whose verdict stays
-report_same : (tasks : List PeriodicTask) (z y text : List ℕ) → verdict (z ++ y) ≡ verdict z → (status : Status)
-    → SaysReport tasks status z text → SaysReport tasks status (z ++ y) text
-report_same tasks z y text same Done it = record {
+report_same : (form : TaskForm) (tasks : List PeriodicTask) (z y text : List ℕ) → verdict (z ++ y) ≡ verdict z
+    → (status : Status) → SaysReport form tasks status z text → SaysReport form tasks status (z ++ y) text
+report_same form tasks z y text same Done it = record {
   session = it.session;
   valid = it.valid;
   accepted = same ∙ it.accepted;
+  fits = it.fits;
   text_is = it.text_is;
 }
-report_same tasks z y text same No it = (told_same z y same No it.0, it.1 ∙ ap verdict_text (sym same))
-report_same tasks z y text same Refused it = absurd it
-report_same tasks z y text same ReadFault it = absurd it
-report_same tasks z y text same WriteFault it = absurd it
-report_same tasks z y text same Memory it = absurd it
-report_same tasks z y text same Usage it = absurd it
+report_same form tasks z y text same No it = (told_same z y same No it.0, it.1 ∙ ap verdict_text (sym same))
+report_same form tasks z y text same Refused it = (
+  record {
+    session = it.0.session;
+    valid = it.0.valid;
+    accepted = same ∙ it.0.accepted;
+    unfit = it.0.unfit;
+  },
+  it.1,
+)
+report_same form tasks z y text same ReadFault it = absurd it
+report_same form tasks z y text same WriteFault it = absurd it
+report_same form tasks z y text same Memory it = absurd it
+report_same form tasks z y text same Usage it = absurd it
 
 module _ (x y : List ℕ) where
   module _ (closed : is_open (account 0 x) ≡ false) where
@@ -86,34 +96,37 @@ module _ (x y : List ℕ) where
           by (Faulty line cause) it = refl
 
     -- the same is said
-    said_stays : (status : Status) (text : List ℕ) → IsSaid status text x → IsSaid status text (x ++ y)
-    said_stays status text it =
+    said_stays : (form : TaskForm) (status : Status) (text : List ℕ) → IsSaid form status text x
+        → IsSaid form status text (x ++ y)
+    said_stays form status text it =
         let wrong : not (is_wrong (verdict (behind x))) ≡ false =
         subst (λ s. talk.goes_on s (behind x) ≡ false) it.0 over in (
           ap (λ (a : TaskAccount). a.standing) (account_stays closed) ∙ it.0,
-          subst (λ (a : TaskAccount). SaysReport a.tasks status (behind (x ++ y)) text) (sym (account_stays closed))
-              (subst (λ z. SaysReport (account 0 x).tasks status z text) (sym (behind_more closed))
-              (report_same (account 0 x).tasks (behind x) y text (wrong_same (behind x) y wrong) status it.1)),
+          subst (λ (a : TaskAccount). SaysReport form a.tasks status (behind (x ++ y)) text)
+              (sym (account_stays closed))
+              (subst (λ z. SaysReport form (account 0 x).tasks status z text) (sym (behind_more closed))
+              (report_same form (account 0 x).tasks (behind x) y text (wrong_same (behind x) y wrong) status it.1)),
         )
 
     -- bytes behind those that end the talk change no answer
-    answer_stays : (status : Status) (text : List ℕ) → task_report_talk.answer x false status text
-        → task_report_talk.answer (x ++ y) false status text
-    answer_stays status text (inl refused) = inl (
+    answer_stays : (form : TaskForm) (status : Status) (text : List ℕ)
+        → (task_report_talk form).answer x false status text
+        → (task_report_talk form).answer (x ++ y) false status text
+    answer_stays form status text (inl refused) = inl (
       refused.0,
       refused_stays Sure x y closed refused.1,
       refused.2 ∙ refusal_stays Sure x y closed,
     )
-    answer_stays status text (inr said) = inr (said_stays status text said)
+    answer_stays form status text (inr said) = inr (said_stays form status text said)
 
 -- the laws of the talk
-pub steady : IsSteady task_report_talk
-steady = record {
+pub steady : (form : TaskForm) → IsSteady (task_report_talk form)
+steady form = record {
   opens = refl;
   nothing = refl;
   grows = λ x y. ([], refl);
   stays = λ x y over. more_stays x y over;
-  answered = λ x y status text over it. answer_stays x y over status text it;
+  answered = λ x y status text over it. answer_stays x y over form status text it;
   lacking = λ x y it ended. absurd (let e : false ≡ true = ended in cc);
 }
 

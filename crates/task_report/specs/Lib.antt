@@ -2,6 +2,7 @@ pub mod Tallies
 pub mod Keeping
 pub mod Counting
 pub mod Texts
+pub mod Pictures
 pub mod Writing
 pub mod Behind
 pub mod Talk

@@ -1,9 +1,9 @@
 //! What the reading loop calls: a reader of the task text, and a judge of the trace behind it.
-ghost use Rattle.std.specs.Prelude.{ℕ};
 ghost use Rattle.dialogue.specs.Turns.{AllGiven};
 ghost use Rattle.task_report.specs.Talk.{task_report_talk};
-ghost use Rattle.task_report.specs.Talking.{Costs, IsReady};
+ghost use Rattle.task_report.specs.Talking.{Call, Costs, IsReady};
 
+use crate::form::TaskForm;
 use crate::telling::tell;
 use comparison_count::Comparisons;
 use dialogue::lines::put_fault;
@@ -21,6 +21,7 @@ use trace_judge::Judge;
 #[derive(Drop)]
 pub(crate) struct Reporting<L: Ledger> {
     pub(crate) alloc: Global,
+    pub(crate) form: TaskForm,
     pub(crate) reader: TaskReader,
     pub(crate) judge: Judge,
     pub(crate) counts: PhantomData<L>,
@@ -29,15 +30,15 @@ pub(crate) struct Reporting<L: Ledger> {
 impl<L: Ledger> Talker for Reporting<L> {
     type Meter = Comparisons<L>;
 
-    ghost about = { ℕ };
+    ghost about = { Call };
 
-    ghost talk = { λ start. task_report_talk };
+    ghost talk = { λ call. task_report_talk call.form };
 
-    ghost stands = { λ start r steps. AllGiven (IsReady start r.reader r.judge steps) };
+    ghost stands = { λ call r steps. AllGiven (IsReady call r.form r.reader r.judge steps) };
 
-    ghost ready = { λ start r steps. IsReady start r.reader r.judge steps };
+    ghost ready = { λ call r steps. IsReady call r.form r.reader r.judge steps };
 
-    ghost costs = { λ start steps. Costs start steps };
+    ghost costs = { λ call steps. Costs call.start steps };
 
     fn laws() {}
 
@@ -71,7 +72,7 @@ impl<L: Ledger> Talker for Reporting<L> {
     ) -> Result<Status, Stop> {
         match self.reader.close() {
             Ok(listed) => match self.judge.close() {
-                Ok(closed) => tell(self.alloc, port, out, &listed.tasks, closed),
+                Ok(closed) => tell(self.alloc, port, out, self.form, &listed.tasks, closed),
                 Err(_) => Err(Stop::NoMemory),
             },
             Err(fault) => match put_fault(port, out, fault) {

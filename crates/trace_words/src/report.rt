@@ -4,5 +4,5 @@ mod form;
 mod word;
 
 pub use form::Form;
-pub use word::report_word;
-pub(crate) use word::{put_lines, put_whole};
+pub(crate) use word::put_lines;
+pub use word::{is_small, put_size, put_whole, report_word};

@@ -46,7 +46,7 @@ fn text_of(
 }
 
 /// Puts a text that stands in memory as a whole, if there was memory for it.
-pub(crate) fn put_whole<P: Port>(port: &mut P, text: Result<Vec<u8>, Memory>) -> Result<(), Stop>
+pub fn put_whole<P: Port>(port: &mut P, text: Result<Vec<u8>, Memory>) -> Result<(), Stop>
     ensures puts { (said : List ℕ) → IfOk text (λ bytes. bytes.items ≡ said)
         → Puts result (P.moves port.old) (P.moves port.new) [] said }
     ensures cause { StopCause result
@@ -176,7 +176,7 @@ fn put_report<P: Port>(
 }
 
 /// Puts the line that refuses a trace whose jobs are beyond what a report keeps.
-fn put_size<P: Port>(port: &mut P) -> Result<(), Stop>
+pub fn put_size<P: Port>(port: &mut P) -> Result<(), Stop>
     ensures puts { Puts result (P.moves port.old) (P.moves port.new) [] size_text }
     ensures cause { StopCause result
         (P.write_faults port.old) (P.write_faults port.new) (P.read_faults port.old) (P.read_faults port.new) }
@@ -190,7 +190,7 @@ fn put_size<P: Port>(port: &mut P) -> Result<(), Stop>
 
 /// Whether the jobs of the run of this version that prints these steps are no more than a report keeps, and due early
 /// enough. Before version Three all are.
-fn is_small(version: Version, steps: &[PackedEvent]) -> bool
+pub fn is_small(version: Version, steps: &[PackedEvent]) -> bool
     ensures { (J : Instance) → IsValid J → printed J ≡ steps.now → J.rules.version ≡ version →
         IsTrue result ↔ IsListable J }
 {

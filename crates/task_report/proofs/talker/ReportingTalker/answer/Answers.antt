@@ -20,43 +20,43 @@ tell-requires-clause-closed g c = let at = c.requires.ready.2 in (
 )
 
 pub returns-in-Ok-close-clause-answers : goal.returns-in-Ok-close-clause-answers
-returns-in-Ok-close-clause-answers g c = λ start x at over. answered start _ _ _ x at c.args._ended over c.in-Ok.listed
+returns-in-Ok-close-clause-answers g c = λ call x at over. answered call _ _ _ _ x at c.args._ended over c.in-Ok.listed
     (c.in-Ok.ensures.tasks 0 at.front at.reads) _ _ _ _ (rw c.deref.ensures.value at (c.tell.ensures.tells (behind x)
     (closed_with c.in-Ok-close.closed _ _ _ at.keeps_steps (c.in-Ok-close.ensures.tells _ at.judges)
     (c.in-Ok-close.ensures.steps _ at.judges) (λ S. c.in-Ok-close.ensures.refused _ S at.judges))))
 
 pub returns-in-Ok-clause-answers : goal.returns-in-Ok-clause-answers
-returns-in-Ok-clause-answers g c = λ start x at over. never (c.in-Err-close.ensures.ok (behind x) at.judges)
+returns-in-Ok-clause-answers g c = λ call x at over. never (c.in-Err-close.ensures.ok (behind x) at.judges)
 
 pub returns-in-Ok-put_fault-clause-answers : goal.returns-in-Ok-put_fault-clause-answers
-returns-in-Ok-put_fault-clause-answers g c = λ start x at over. (
+returns-in-Ok-put_fault-clause-answers g c = λ call x at over. (
   tt,
   (
     fault_text c.in-Err.fault.line (cause_of_fault c.in-Err.fault.cause) ++ 10 ∷ [],
-    refused start _ _ _ x at c.args._ended over c.in-Err.fault (c.in-Err.ensures.fault 0 at.front at.reads),
+    refused call _ _ _ _ x at c.args._ended over c.in-Err.fault (c.in-Err.ensures.fault 0 at.front at.reads),
     rw c.requires.empty at c.in-Ok-put_fault.ensures.text.all,
   ),
 )
 
 pub returns-clause-answers : goal.returns-clause-answers
-returns-clause-answers g c = λ start x at over. (
+returns-clause-answers g c = λ call x at over. (
   Refused,
   fault_text c.in-Err.fault.line (cause_of_fault c.in-Err.fault.cause) ++ 10 ∷ [],
-  refused start _ _ _ x at c.args._ended over c.in-Err.fault (c.in-Err.ensures.fault 0 at.front at.reads),
+  refused call _ _ _ _ x at c.args._ended over c.in-Err.fault (c.in-Err.ensures.fault 0 at.front at.reads),
   rw c.requires.empty at c.in-Err-put_fault.ensures.text.part,
 )
 
 pub returns-in-Ok-close-clause-spent : goal.returns-in-Ok-close-clause-spent
-returns-in-Ok-close-clause-spent g c = λ start x at. spent start _ _ _ x at
+returns-in-Ok-close-clause-spent g c = λ call x at. spent call _ _ _ _ x at
 
 pub returns-in-Ok-clause-spent : goal.returns-in-Ok-clause-spent
-returns-in-Ok-clause-spent g c = λ start x at. spent start _ _ _ x at
+returns-in-Ok-clause-spent g c = λ call x at. spent call _ _ _ _ x at
 
 pub returns-in-Ok-put_fault-clause-spent : goal.returns-in-Ok-put_fault-clause-spent
-returns-in-Ok-put_fault-clause-spent g c = λ start x at. spent start _ _ _ x at
+returns-in-Ok-put_fault-clause-spent g c = λ call x at. spent call _ _ _ _ x at
 
 pub returns-clause-spent : goal.returns-clause-spent
-returns-clause-spent g c = λ start x at. spent start _ _ _ x at
+returns-clause-spent g c = λ call x at. spent call _ _ _ _ x at
 
 pub returns-in-Ok-close-clause-cause : goal.returns-in-Ok-close-clause-cause
 returns-in-Ok-close-clause-cause g c = c.tell.ensures.cause

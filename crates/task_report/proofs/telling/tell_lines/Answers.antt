@@ -1,6 +1,6 @@
 use Rattle.std.proofs.Common.{refl}
 use Rattle.task_report.proofs.Told.{told_cut, told_none, told_put}
-use Rattle.task_report.proofs.telling.tell_run.Goals as goal
+use Rattle.task_report.proofs.telling.tell_lines.Goals as goal
 
 pub put_report-requires : goal.put_report-requires
 put_report-requires g c = (c.args.steps.items, c.in-Ok.ensures)
