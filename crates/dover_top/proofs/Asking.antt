@@ -8,6 +8,8 @@ use Rattle.trace_words.specs.declared.report.form.Form.{Form}
 use Rattle.trace_words.specs.declared.report.form.Form.TheVariants.{Text, Table, Chrome, Why, Timeline, Svg}
 use Rattle.trace_words.specs.declared.schedule.form.ScheduleForm.{ScheduleForm}
 use Rattle.trace_words.specs.declared.schedule.form.ScheduleForm.TheVariants as any
+use Rattle.task_report.specs.declared.form.TaskForm.{TaskForm}
+use Rattle.task_report.specs.declared.form.TaskForm.TheVariants as by_tasks
 use Rattle.stated_jobs.specs.declared.duel.links.Share.{Share}
 use Rattle.stated_jobs.specs.duel.Kept.{IsShare}
 use Rattle.run_reports.specs.declared.views.window.Window.{Window}
@@ -15,7 +17,8 @@ use Rattle.dover_model.specs.Common.{Fraction, IsRatio, fraction, is_some_factor
 use Rattle.dover_model.specs.declared.factors.Factor.{Factor}
 use Rattle.dover_model.proofs.texts.Numerals.{numeral-decimal}
 use Rattle.dover_top.specs.Requests.{Asks}
-use Rattle.dover_top.specs.Words.{IsFormed, IsScheduleForm, factor_words, form_words, schedule_words, spelled}
+use Rattle.dover_top.specs.Words.{IsFormed, IsScheduleForm, IsTaskForm, factor_words, form_words, schedule_words}
+use Rattle.dover_top.specs.Words.{spelled, task_words}
 use Rattle.dover_top.specs.declared.request.Request.{Request}
 use Rattle.dover_top.specs.declared.request.Request.TheVariants.{Serve, Judge, Report, Trial, Bait, Ask, Lanes, Pause}
 use Rattle.dover_top.specs.declared.request.Request.TheVariants.{Resume, Unroll, Duel, Draw, Sure, Budget, Ratio}
@@ -78,11 +81,17 @@ schedule_form_of words = let word = word_at 2 words in
     if bytes_eq word (codes "timeline") then any.Timeline (window_of (drop 3 words))
     else any.Svg (window_of (drop 3 words)))
 
+-- the form of report on tasks that words name
+abbrev task_form_of : List (List ℕ) → TaskForm
+task_form_of [] = by_tasks.Lines
+task_form_of (word ∷ words) = if bytes_eq word (codes "timeline") then by_tasks.Timeline (window_of words)
+    else by_tasks.Svg (window_of words)
+
 -- what words ask for that begin with the word for a report, by whether the next one is that for any schedule, or for
 -- tasks
 abbrev report_by : (any tasks : Bool) → List (List ℕ) → Request
 report_by true tasks words = Schedule (schedule_form_of words)
-report_by false true words = ReportTasks
+report_by false true words = ReportTasks (task_form_of (drop 2 words))
 report_by false false words = Report (form_of words)
 
 -- what is done where the input ends that a word names
@@ -196,7 +205,13 @@ is_read words (Schedule (any.Timeline (Some w))) asks = ap request_of asks.row
 is_read words (Schedule (any.Svg None)) asks = ap request_of asks.row
 is_read words (Schedule (any.Svg (Some w))) asks = ap request_of asks.row
     ∙ ap (λ v. Schedule (any.Svg (Some v))) (window_same w asks.formed.0 asks.formed.1)
-is_read words ReportTasks asks = ap request_of asks
+is_read words (ReportTasks by_tasks.Lines) asks = ap request_of asks.row
+is_read words (ReportTasks (by_tasks.Timeline None)) asks = ap request_of asks.row
+is_read words (ReportTasks (by_tasks.Timeline (Some w))) asks = ap request_of asks.row
+    ∙ ap (λ v. ReportTasks (by_tasks.Timeline (Some v))) (window_same w asks.formed.0 asks.formed.1)
+is_read words (ReportTasks (by_tasks.Svg None)) asks = ap request_of asks.row
+is_read words (ReportTasks (by_tasks.Svg (Some w))) asks = ap request_of asks.row
+    ∙ ap (λ v. ReportTasks (by_tasks.Svg (Some v))) (window_same w asks.formed.0 asks.formed.1)
 is_read words (Trial seed count k) asks = ap request_of asks.row
     ∙ ap (λ n. Trial n (number_of (decimal count)) (ratio_at 0 (decimal k.p ∷ decimal k.q ∷ [])))
     (number_same seed (omega (arith, asks.small)))
@@ -246,21 +261,21 @@ pub asks_read : (word : String Global) (words : List (String Global)) (r : Reque
 asks_read word words r text is asks =
     subst (Asks (word ∷ words)) (sym (is_read (word ∷ words) r asks) ∙ ap (λ w. request_of (w ∷ spelled words)) is) asks
 
--- words for a report name its form, or that of a report on a schedule, or are that for tasks
+-- words for a report name its form, or that of a report on a schedule, or that of a report on tasks
 pub asks_report : (word : String Global) (words : List (String Global)) (r : Request)
     → string_bytes word ≡ codes "report" → Asks (word ∷ words) r
     → ((form : Form) × (spelled words ≡ form_words form) × IsFormed form)
     ⊎ (((form : ScheduleForm) × (spelled words ≡ codes "any" ∷ schedule_words form) × IsScheduleForm form)
-    ⊎ (spelled words ≡ codes "tasks" ∷ []))
+    ⊎ ((form : TaskForm) × (spelled words ≡ codes "tasks" ∷ task_words form) × IsTaskForm form))
 asks_report word words r is asks =
     by (bytes_eq (word_at 0 (spelled words)) (codes "any")) (bytes_eq (word_at 0 (spelled words)) (codes "tasks"))
     (asks_read word words r (codes "report") is asks) where
       by : (b c : Bool) → Asks (word ∷ words) (report_by b c (codes "report" ∷ spelled words))
           → ((form : Form) × (spelled words ≡ form_words form) × IsFormed form)
           ⊎ (((form : ScheduleForm) × (spelled words ≡ codes "any" ∷ schedule_words form) × IsScheduleForm form)
-          ⊎ (spelled words ≡ codes "tasks" ∷ []))
+          ⊎ ((form : TaskForm) × (spelled words ≡ codes "tasks" ∷ task_words form) × IsTaskForm form))
       by true c it = inr (inl (_, ap (drop 1) it.row, it.formed))
-      by false true it = inr (inr (ap (drop 1) it))
+      by false true it = inr (inr (_, ap (drop 1) it.row, it.formed))
       by false false it = inl (_, ap (drop 1) it.row, it.formed)
 
 -- ---- words one by one

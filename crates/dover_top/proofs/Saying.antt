@@ -41,7 +41,7 @@ no_usage Serve moves s = s.ends
 no_usage Judge moves s = s.ends
 no_usage (Report form) moves s = s.ends
 no_usage (Schedule form) moves s = s.ends
-no_usage ReportTasks moves s = s.ends
+no_usage (ReportTasks form) moves s = s.ends
 no_usage (Trial seed count k) moves s = s
 no_usage (Bait k rounds) moves (inl s) = s.1
 no_usage (Bait k rounds) moves (inr s) = s.1
@@ -102,7 +102,7 @@ module _ (moves : List Move) where
   keeps_of words Judge asks status s = λ done. accepted moves (at Judge status s done).ends.answer.0
   keeps_of words (Report form) asks status s = λ done. accepted moves (at (Report form) status s done).ends.answer.0
   keeps_of words (Schedule form) asks status s = tt
-  keeps_of words ReportTasks asks status s = tt
+  keeps_of words (ReportTasks form) asks status s = tt
   keeps_of words (Trial seed count k) asks status s = λ done. generated k seed count asks.allowed asks.few
   keeps_of words (Bait k rounds) asks status s = λ done.
       bait_kept k rounds (baited k rounds asks.allowed asks.some) (at (Bait k rounds) status s done)

@@ -12,6 +12,8 @@ use Rattle.trace_words.specs.declared.report.form.Form.{Form}
 use Rattle.trace_words.specs.declared.report.form.Form.TheVariants.{Text, Table, Chrome, Why, Timeline, Svg}
 use Rattle.trace_words.specs.declared.schedule.form.ScheduleForm.{ScheduleForm}
 use Rattle.trace_words.specs.declared.schedule.form.ScheduleForm.TheVariants as any
+use Rattle.task_report.specs.declared.form.TaskForm.{TaskForm}
+use Rattle.task_report.specs.declared.form.TaskForm.TheVariants as by_tasks
 use Rattle.run_reports.specs.declared.views.window.Window.{Window}
 use Rattle.feed_words.specs.declared.serve.at_end.AtEnd.{AtEnd}
 use Rattle.feed_words.specs.declared.serve.at_end.AtEnd.TheVariants.{Refuse, Pause}
@@ -78,9 +80,22 @@ pub record AsksSchedule (words : List (String Global)) (form : ScheduleForm) : T
   pub row : spelled words ≡ codes "report" ∷ codes "any" ∷ schedule_words form
   pub formed : IsScheduleForm form
 
--- the two words that ask what became of the jobs of tasks
-abbrev pub AsksReportTasks : List (String Global) → Type 0
-AsksReportTasks words = spelled words ≡ codes "report" ∷ codes "tasks" ∷ []
+-- the words for a form of report on tasks
+abbrev pub task_words : TaskForm → List (List ℕ)
+task_words by_tasks.Lines = []
+task_words (by_tasks.Timeline window) = codes "timeline" ∷ window_words window
+task_words (by_tasks.Svg window) = codes "svg" ∷ window_words window
+
+-- a window of it is one
+abbrev pub IsTaskForm : TaskForm → Type 0
+IsTaskForm by_tasks.Lines = Unit {0}
+IsTaskForm (by_tasks.Timeline window) = IsWindow window
+IsTaskForm (by_tasks.Svg window) = IsWindow window
+
+-- the words that ask what became of the jobs of tasks, in this form
+pub record AsksReportTasks (words : List (String Global)) (form : TaskForm) : Type 0 where
+  pub row : spelled words ≡ codes "report" ∷ codes "tasks" ∷ task_words form
+  pub formed : IsTaskForm form
 
 -- the words that ask for the run of so many jobs of a seed, within a ratio
 pub record AsksTrial (words : List (String Global)) (seed count : ℕ) (k : Fraction) : Type 0 where

@@ -40,7 +40,7 @@ pub(crate) fn carry_out<P: Port, L: Ledger>(
         Request::Judge => judge_word(alloc, port, comparisons),
         Request::Report(form) => report_word(alloc, port, form, comparisons),
         Request::Schedule(form) => schedule_word(alloc, port, form, comparisons),
-        Request::ReportTasks => task_report_word(alloc, port, comparisons),
+        Request::ReportTasks(form) => task_report_word(alloc, port, form, comparisons),
         Request::Trial { seed, count, k } => trial_word(alloc, port, seed, count, k, comparisons),
         Request::Bait { k, rounds } => bait_word(port, k, rounds),
         Request::Ask(question) => question_word(alloc, port, question, comparisons),

@@ -7,6 +7,8 @@ ghost use Rattle.stated_jobs.specs.duel.Kept.{IsShare};
 ghost use Rattle.run_reports.specs.declared.views.window.Window.{Window};
 ghost use Rattle.dover_top.specs.Words.{IsFormed, IsFront, IsWindow, form_words, front_words};
 ghost use Rattle.dover_top.specs.Words.{factor_words, window_words, IsScheduleForm, schedule_words};
+ghost use Rattle.dover_top.specs.Words.{IsTaskForm, task_words};
+ghost use Rattle.task_report.specs.declared.form.TaskForm.{TaskForm as SpelledTaskForm};
 ghost use Rattle.trace_words.specs.declared.schedule.form.ScheduleForm.{ScheduleForm as SpelledForm};
 ghost use Rattle.dover_model.specs.Common.{Fraction, IsRatio, is_some_factor, most_jobs};
 ghost use Rattle.dover_model.specs.declared.factors.Factor.{Factor};
@@ -21,6 +23,7 @@ use line_text::numeral;
 use question_words::Question;
 use run_reports::views::Window;
 use stated_jobs::duel::Share;
+use task_report::TaskForm;
 use trace_words::report::Form;
 use trace_words::schedule::ScheduleForm;
 
@@ -35,8 +38,8 @@ pub enum Request {
     Report(Form),
     /// A report is made on a schedule, whichever policy made it.
     Schedule(ScheduleForm),
-    /// What became of the jobs of tasks is told.
-    ReportTasks,
+    /// What became of the jobs of tasks is told, or drawn.
+    ReportTasks(TaskForm),
     /// The jobs of a seed are served.
     Trial {
         seed: u32,
@@ -232,6 +235,34 @@ fn schedule(words: &[String]) -> Option<ScheduleForm>
     Some(form)
 }
 
+/// The form of a report on tasks of this name, on a window if there is one.
+fn task_form_on(name: &String, window: Option<Window>) -> Option<TaskForm>
+    ensures some { IfSome result (λ f. (string_bytes name.now ∷ window_words window ≡ task_words f)
+        × (IsWindow window → IsTaskForm f)) }
+    ensures none { IsNone result → (f : SpelledTaskForm) →
+        string_bytes name.now ∷ window_words window ≡ task_words f → ⊥ }
+{
+    match name.as_str() {
+        "timeline" => Some(TaskForm::Timeline(window)),
+        "svg" => Some(TaskForm::Svg(window)),
+        _ => None,
+    }
+}
+
+/// The words behind `tasks`: none, or a form of picture, and what it is on.
+fn task_form(words: &[String]) -> Option<TaskForm>
+    ensures some { IfSome result (λ f. (map string_bytes words.now ≡ task_words f) × IsTaskForm f) }
+    ensures none { IsNone result → (f : SpelledTaskForm) → IsTaskForm f →
+        map string_bytes words.now ≡ task_words f → ⊥ }
+{
+    if words.is_empty() {
+        return Some(TaskForm::Lines);
+    }
+    let (name, words) = words.split_first()?;
+    let form = task_form_on(name, window(words)?)?;
+    Some(form)
+}
+
 /// One word.
 fn one_word(word: &String) -> Option<Request>
     ensures some { IfSome result (λ r. Asks (word.now ∷ []) r) }
@@ -271,10 +302,8 @@ fn report(words: &[String]) -> Option<Request>
             Some(Request::Schedule(form))
         }
         "tasks" => {
-            let [] = words else {
-                return None;
-            };
-            Some(Request::ReportTasks)
+            let form = task_form(words)?;
+            Some(Request::ReportTasks(form))
         }
         _ => {
             let form = form_on(name, window(words)?)?;

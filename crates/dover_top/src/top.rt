@@ -32,7 +32,9 @@ use std::sync::ledger::Ledger;
 ///   policy may have made, and write the same on it where it is legal, without intervals and bound, else the line that
 ///   is wrong first and why, or that it is short. More jobs than version Two may have are refused.
 /// - `report tasks` reads periodic tasks and a trace behind them, and writes what became of the jobs of each task, or
-///   else the line that `judge` writes.
+///   else the line that `judge` writes. `report tasks timeline [FROM UNTIL]` and `report tasks svg [FROM UNTIL]` write
+///   the picture of its run in place of that, with the jobs of each task by themselves; a trace that `report` would
+///   refuse is refused.
 /// - `trial SEED COUNT P Q` reads nothing, and writes the summary of the run of so many stated jobs of a seed, within
 ///   the ratio P/Q.
 /// - `bait P Q N` reads nothing, and writes what the run of the baiting jobs comes to, and what another schedule of

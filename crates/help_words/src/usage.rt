@@ -22,6 +22,10 @@ pub const USAGE: &str = r"usage: dover WORD.. [< INPUT]
   report any svg         a schedule of any policy in, a picture of it as SVG out
   report any svg FROM UNTIL  the same, of the ticks from FROM on and before UNTIL
   report tasks           periodic tasks and a trace behind them in, what became of the jobs of each task out
+  report tasks timeline  the same in, a picture of the run for a terminal, each task below its name, out
+  report tasks timeline FROM UNTIL  the same, of the ticks from FROM on and before UNTIL
+  report tasks svg       the same in, a picture of the run as SVG, each task in lanes of its own, out
+  report tasks svg FROM UNTIL  the same, of the ticks from FROM on and before UNTIL
   feasible               a feed in, whether all its deadlines can be met out, with a schedule or a window
   best                   a feed of at most 20 jobs in, the best schedule of its jobs out
   compare                a feed in, what the rules, version Four of them and two simpler policies complete out

@@ -117,7 +117,7 @@ returns-in_err-name-clause-none c = λ word is _ r asks.
     elim (asks_report word _ r is asks) [
       | inl it ↦ absurd (omega (arith, c.in_err-name.ensures.cases, long, ap length it.1, some_words it.0))
       | inr (inl it) ↦ absurd (omega (arith, c.in_err-name.ensures.cases, long, ap length it.1))
-      | inr (inr it) ↦ absurd (omega (arith, c.in_err-name.ensures.cases, long, ap length it))
+      | inr (inr it) ↦ absurd (omega (arith, c.in_err-name.ensures.cases, long, ap length it.1))
     ]
 
 pub returns-in_err-job-in-why-clause-none : goal.returns-in_err-job-in-why-clause-none
@@ -127,7 +127,7 @@ returns-in_err-job-in-why-clause-none c = λ word is _ r asks.
       | inl it ↦ no_job _ _ it.0 (split c.in_ok-name.ensures.cases.0 it.1) it.2 why
           (c.in_err-job-in-why.ensures.none refl)
       | inr (inl it) ↦ any_why (its_name (split c.in_ok-name.ensures.cases.0 it.1)) why
-      | inr (inr it) ↦ tasks_why (its_name (split c.in_ok-name.ensures.cases.0 it)) why
+      | inr (inr it) ↦ tasks_why (its_name (split c.in_ok-name.ensures.cases.0 it.1)) why
     ]
 
 pub returns-in_err-form-in-any-clause-none : goal.returns-in_err-form-in-any-clause-none
@@ -136,8 +136,19 @@ returns-in_err-form-in-any-clause-none c = λ word is _ r asks.
       | inl it ↦ no_any _ _ it.0 (split c.in_ok-name.ensures.cases.0 it.1) (sym c.as_str.ensures.value ∙ c.in-any.is)
       | inr (inl it) ↦ c.in_err-form-in-any.ensures.none refl it.0 it.2
           (ap (drop 1) (split c.in_ok-name.ensures.cases.0 it.1))
-      | inr (inr it) ↦ tasks_any (its_name (split c.in_ok-name.ensures.cases.0 it))
+      | inr (inr it) ↦ tasks_any (its_name (split c.in_ok-name.ensures.cases.0 it.1))
           (sym c.as_str.ensures.value ∙ c.in-any.is)
+    ]
+
+pub returns-in_err-form-in-tasks-clause-none : goal.returns-in_err-form-in-tasks-clause-none
+returns-in_err-form-in-tasks-clause-none c = λ word is _ r asks.
+    elim (asks_report word _ r is asks) [
+      | inl it ↦ no_tasks _ _ it.0 (split c.in_ok-name.ensures.cases.0 it.1)
+          (sym c.as_str.ensures.value ∙ c.in-tasks.is)
+      | inr (inl it) ↦ tasks_any (sym c.as_str.ensures.value ∙ c.in-tasks.is)
+          (its_name (split c.in_ok-name.ensures.cases.0 it.1))
+      | inr (inr it) ↦ c.in_err-form-in-tasks.ensures.none refl it.0 it.2
+          (ap (drop 1) (split c.in_ok-name.ensures.cases.0 it.1))
     ]
 
 pub returns-in_err-window-in_default-clause-none : goal.returns-in_err-window-in_default-clause-none
@@ -148,7 +159,7 @@ returns-in_err-window-in_default-clause-none c = λ word is _ r asks.
       | inr (inl it) ↦ c.in_default.not-any
           (c.as_str.ensures.value ∙ its_name (split c.in_ok-name.ensures.cases.0 it.1))
       | inr (inr it) ↦ c.in_default.not-tasks
-          (c.as_str.ensures.value ∙ its_name (split c.in_ok-name.ensures.cases.0 it))
+          (c.as_str.ensures.value ∙ its_name (split c.in_ok-name.ensures.cases.0 it.1))
     ]
 
 pub returns-in_err-form-in_default-clause-none : goal.returns-in_err-form-in_default-clause-none
@@ -160,7 +171,7 @@ returns-in_err-form-in_default-clause-none c = λ word is _ r asks.
       | inr (inl it) ↦ c.in_default.not-any
           (c.as_str.ensures.value ∙ its_name (split c.in_ok-name.ensures.cases.0 it.1))
       | inr (inr it) ↦ c.in_default.not-tasks
-          (c.as_str.ensures.value ∙ its_name (split c.in_ok-name.ensures.cases.0 it))
+          (c.as_str.ensures.value ∙ its_name (split c.in_ok-name.ensures.cases.0 it.1))
     ]
 
 pub returns-in_ok-form-in-any-clause-some : goal.returns-in_ok-form-in-any-clause-some
@@ -168,6 +179,13 @@ returns-in_ok-form-in-any-clause-some c = λ word is. record {
   row = row_of word c.args.words.now _ _ is (joined c.in_ok-name.ensures.cases.0
       (sym c.as_str.ensures.value ∙ c.in-any.is) c.in_ok-form-in-any.ensures.some.0);
   formed = c.in_ok-form-in-any.ensures.some.1;
+}
+
+pub returns-in_ok-form-in-tasks-clause-some : goal.returns-in_ok-form-in-tasks-clause-some
+returns-in_ok-form-in-tasks-clause-some c = λ word is. record {
+  row = row_of word c.args.words.now _ _ is (joined c.in_ok-name.ensures.cases.0
+      (sym c.as_str.ensures.value ∙ c.in-tasks.is) c.in_ok-form-in-tasks.ensures.some.0);
+  formed = c.in_ok-form-in-tasks.ensures.some.1;
 }
 
 pub returns-in_ok-job-in-why-clause-some : goal.returns-in_ok-job-in-why-clause-some
