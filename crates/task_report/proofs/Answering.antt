@@ -80,7 +80,8 @@ module _ (call : Call) (form : TaskForm) (reader : TaskReader) (judge : Judged) 
     pub answered : (r : Result Status Stop) → TellsBy form listed.tasks.items (behind x) a b q r
         → AnswersBy (task_report_talk call.form) x ended a b q r
     answered (Ok status) put =
-        (says_final form listed.tasks.items status (behind x) put.0 put.1, (put.0, inr (said status put.0 put.1), put.2))
+        let final = says_final form listed.tasks.items status (behind x) put.0 put.1 in
+        (final, (put.0, inr (said status put.0 put.1), put.2))
     answered (Err Unwritten) cut = (cut.0, cut.1, inr (said cut.0 cut.1 cut.2), cut.3)
     answered (Err NoMemory) none =
         ((λ _. (ap (λ (a : TaskAccount). a.standing) at.same ∙ by.ended, none.0)), none.1)

@@ -19,9 +19,9 @@ use trace_judge::Judge;
 /// Reports on the jobs of tasks: reads a task text and the trace behind it, to the first fault of the one, the first
 /// wrong line of the other, or the end of the input. Then it writes a line for each task on what became of its jobs,
 /// and one for the jobs that are of no task, or a picture of the run with the jobs of each task by themselves; or the
-/// line that refuses the task text; or the line of the verdict on the trace, whose lines count from its own first one. A
-/// picture of jobs beyond the limits of version Two is refused. Memory is taken for the tasks, for the jobs and the
-/// steps that the trace names, and for the report, all of it before the first byte is written.
+/// line that refuses the task text; or the line of the verdict on the trace, whose lines count from its own first
+/// one. A picture of jobs beyond the limits of version Two is refused. Memory is taken for the tasks, for the jobs and
+/// the steps that the trace names, and for the report, all of it before the first byte is written.
 pub fn task_report_word<P: Port, L: Ledger>(
     alloc: Global,
     port: &mut P,
