@@ -1,6 +1,6 @@
 -- Two lists that agree at each place, and two lists of jobs that are alike.
-use Rattle.std.proofs.Common.{◌≡◌, ℕ, zero, suc, ◌+◌, ◌≤◌, ◌<◌, List, [], ◌∷◌, length, map, refl, sym, ap, ◌∙◌, subst}
-use Rattle.std.proofs.Common.{true, false, ◌&&◌, arith, Option, Some, inl, inr, ◌⊎◌, option_map, bytes_eq, ◌==◌}
+use Rattle.std.proofs.Common.{◌≡◌, ℕ, suc, ◌≤◌, ◌<◌, List, [], ◌∷◌, length, map, refl, sym, ap, ◌∙◌}
+use Rattle.std.proofs.Common.{true, false, ◌&&◌, arith, Option, Some, option_map, bytes_eq, ◌==◌}
 use Rattle.std.proofs.Common.{if◌then◌else◌, slice_get, eq-eqb, eqb-true}
 use Rattle.std.proofs.lemmas.Bool.{and_parts}
 use Rattle.std.proofs.lemmas.Option.{slice_get-map}

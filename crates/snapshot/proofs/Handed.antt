@@ -6,7 +6,7 @@ use Rattle.std.proofs.lemmas.List.Sums.{fold-append}
 use Rattle.dover_model.specs.declared.events.Task.{Task}
 use Rattle.dover_model.specs.Common.{JobFacts, IsJob, job_numbers, job_of_numbers, IsValid, AreShort, Session}
 use Rattle.dover_model.specs.Common.{RefusedJob, admitted_jobs, refuses_lines, jobs_of, JobLine, feed_text, Account}
-use Rattle.dover_model.specs.Common.{Standing, Open, Faulty, NotAdmitted, next_line, no_lines, account_of_lines}
+use Rattle.dover_model.specs.Common.{Open, Faulty, NotAdmitted, next_line, no_lines, account_of_lines}
 use Rattle.dover_model.specs.Common.{with_line, with_fault, with_refused_at, refused_mark, is_full, instance_of}
 use Rattle.dover_model.specs.Feed as model
 use Rattle.dover_model.proofs.sessions.Fullness.{few_ready}

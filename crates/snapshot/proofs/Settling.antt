@@ -2,20 +2,13 @@
 use Rattle.std.proofs.Common.{◌≤◌, ◌+◌, ℕ, List, [], ◌∷◌, ◌++◌, length, length-append, ap, ◌≡◌, true, false, arith}
 use Rattle.std.proofs.Common.{Some, Result, Ok, Err, IsErr, OnOk, OnErr}
 use Rattle.dover_model.specs.declared.events.Event.{Event}
-use Rattle.dover_model.specs.declared.events.Task.{Task}
-use Rattle.dover_model.specs.Common.{JobFacts, IsJob, Instance, last_tick, MayFollow, due_by, Gives}
-use Rattle.dover_model.proofs.lists.Members.{all_last}
+use Rattle.dover_model.specs.Common.{Instance, MayFollow, due_by, Gives}
 use Rattle.dover_model.specs.declared.horizon.Horizon.TheVariants.{Mark}
 use Rattle.dover_model.proofs.settled.Horizons.{due_few}
 use Rattle.dover_model.proofs.valid.Limiting.{jobs_most}
 use Rattle.ready_server.proofs.Stepping.{serves_begins}
-use Rattle.snapshot.specs.Snapshot.{Head}
-use Rattle.snapshot.specs.Reading.{declared_jobs}
-use Rattle.snapshot.specs.Kept.{MayAdmit}
 use Rattle.ready_server.specs.Rostering.{Serves, Rests}
 use Rattle.ready_server.specs.declared.roster_server.RosterServer.{RosterServer}
-use Rattle.dover_model.proofs.valid.ValidParts.{valid_parts}
-use Rattle.dover_model.proofs.valid.JobLimits.{job_limits}
 
 -- so many steps at least were printed on the way to a mark
 pub record IsOnTheWay (v : RosterServer) (J : Instance) (mark steps : ℕ) : Type 0 where
@@ -51,15 +44,6 @@ too_many v J mark steps it many =
       ap length begins.1,
       length-append it.events begins.0,
     ))
-
--- its release is a tick
-pub release_known : (h : Head) (tasks : List Task) (last : ℕ) (job : JobFacts) → MayAdmit last h tasks job
-    → job.release ≤ last_tick
-release_known h tasks last job may =
-    let it : IsJob job = all_last IsJob (declared_jobs h tasks).jobs job (valid_parts may.valid).each in
-    let window : job.release + job.work ≤ job.deadline = (job_limits it).window in
-    let due : job.deadline ≤ last_tick = (job_limits it).due in
-    omega arith
 
 -- what is said of an error
 pub on_err : {X E : Type 0} (r : Result X E) (P : Type 0) → P → OnErr r P

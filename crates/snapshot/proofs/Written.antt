@@ -1,13 +1,11 @@
 -- The first line and the line of a job, as they are written.
-use Rattle.std.proofs.Common.{◌≡◌, List, [], ◌∷◌, ◌++◌, ℕ, append_assoc, append-nil, map, sym, ap, ◌∙◌, decimal, codes}
-use Rattle.dover_model.specs.declared.events.Task.{Task}
+use Rattle.std.proofs.Common.{◌≡◌, List, [], ◌∷◌, ◌++◌, ℕ, append_assoc, append-nil, map, sym, ap, ◌∙◌, decimal}
 use Rattle.std.proofs.Common.{◌≤◌, length, length-append, arith}
 use Rattle.std.proofs.lemmas.Fmt.{length-decimal-le}
 use Rattle.dover_model.specs.declared.events.Version.TheVariants.{Three}
-use Rattle.dover_model.specs.Common.{factor_numbers, last_tick, most_jobs, most_lines, most_p, most_q, version_number}
-use Rattle.dover_model.specs.Common.{job_numbers, line_of, with_numbers}
+use Rattle.dover_model.specs.Common.{last_tick, most_jobs, most_lines, most_p, most_q}
+use Rattle.dover_model.specs.Common.{line_of, with_numbers}
 use Rattle.line_text.specs.Writing.{numbers_behind}
-use Rattle.snapshot.specs.Snapshot.{Head, head_line, role_word, state_line}
 
 -- a word and a number, a word and numbers, in front of more
 joined : (w d r n t : List ℕ) → (w ++ (32 ∷ d ++ [])) ++ (32 ∷ (r ++ (n ++ t)))

@@ -1,4 +1,4 @@
-use Rattle.std.proofs.Common.{◌≡◌, ◌≤◌, ◌<◌, ◌∷◌, [], ◌++◌, length, sym, ap, ◌∙◌, subst, refl, arith, option_map}
+use Rattle.std.proofs.Common.{◌≡◌, ◌≤◌, ◌∷◌, [], ◌++◌, length, sym, ap, ◌∙◌, subst, refl, arith, option_map}
 use Rattle.dover_model.specs.JobFacts.{JobFacts}
 use Rattle.snapshot.specs.Forms.{task_in}
 use Rattle.snapshot.specs.Snapshot.{Head}
