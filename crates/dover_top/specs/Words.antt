@@ -5,7 +5,7 @@ use Rattle.std.specs.declared.alloc.Global.{Global}
 use Rattle.dover_model.specs.Fraction.{Fraction, IsRatio}
 use Rattle.dover_model.specs.declared.factors.Factor.{Factor}
 use Rattle.dover_model.specs.declared.events.Version.TheVariants.{Two}
-use Rattle.dover_model.specs.Limits.{most_digits, most_jobs, last_tick}
+use Rattle.dover_model.specs.Limits.{most_digits, most_jobs, last_tick_in, most_work}
 use Rattle.stated_jobs.specs.declared.duel.links.Share.{Share}
 use Rattle.stated_jobs.specs.duel.Kept.{IsShare}
 use Rattle.trace_words.specs.declared.report.form.Form.{Form}
@@ -175,7 +175,7 @@ AsksResume words at_end = spelled words ≡ codes "resume" ∷ end_words at_end
 -- the words that ask for the feed of the jobs that tasks release before a tick
 pub record AsksUnroll (words : List (String Global)) (until : ℕ) : Type 0 where
   pub row : spelled words ≡ codes "unroll" ∷ decimal until ∷ []
-  pub known : until ≤ last_tick
+  pub known : until ≤ last_tick_in Two
 
 -- the one word that asks of each task whether a job of it can be lost
 abbrev pub AsksSure : List (String Global) → Type 0
@@ -188,4 +188,4 @@ AsksRatio words = spelled words ≡ codes "ratio" ∷ []
 -- the words that ask for tasks with budgets that pay for changes of hands of at most so many ticks
 pub record AsksBudget (words : List (String Global)) (cost : ℕ) : Type 0 where
   pub row : spelled words ≡ codes "budget" ∷ decimal cost ∷ []
-  pub known : cost ≤ last_tick
+  pub known : cost ≤ most_work

@@ -17,7 +17,7 @@ ghost use Rattle.dover_top.specs.Requests.{Asks};
 ghost use Rattle.dover_top.specs.declared.request.Request.{Request};
 
 use dover_model::Ratio;
-use dover_model::jobs::LAST_TICK;
+use dover_model::jobs::MOST_WORK;
 use feed_words::serve::AtEnd;
 use line_text::numeral;
 use question_words::Question;
@@ -398,11 +398,11 @@ fn more_words(word: &String, words: &[String]) -> Option<Request>
         "bait" => bait(words),
         "duel" => duel(words),
         "unroll" => {
-            let until = lone(words, 0, LAST_TICK)?;
+            let until = lone(words, 0, Version::Two.last_tick())?;
             Some(Request::Unroll { until })
         }
         "budget" => {
-            let cost = lone(words, 0, LAST_TICK)?;
+            let cost = lone(words, 0, MOST_WORK)?;
             Some(Request::Budget { cost })
         }
         "resume" => paused(words),

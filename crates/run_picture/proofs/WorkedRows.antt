@@ -284,7 +284,7 @@ early_fates : map end_tick (told_by true [] (moments took_and_early)) ≡ 6 ∷ 
 early_fates = refl
 
 -- two jobs of one group stand above that of another, and a third group without a job has a row of its own
-in_groups : List Seen
+abbrev in_groups : List Seen
 in_groups = grouped (0 ∷ 1 ∷ 0 ∷ []) (told_by true [] (moments take_over))
 
 group_rows : map (λ s. s.row) (laid_from (whole take_over.jobs) 0 0 3 in_groups) ≡ 0 ∷ 2 ∷ 1 ∷ []

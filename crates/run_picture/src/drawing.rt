@@ -16,10 +16,10 @@ use crate::processor::pieces;
 use crate::seen::{Seen, told_in_groups, told_plainly};
 use crate::strip::{Bars, put_numbers, put_pieces};
 use crate::windows::put_windows;
+use dover_model::jobs::last_deadline;
 use dover_model::{Job, Memory, PackedEvent, Piece, Ratio, Version};
 use run_record::intervals::{Charge, Interval, weights};
 use run_reports::report::{count, fates_of, released};
-use run_reports::views::last_deadline;
 use std::alloc::Global;
 
 /// The run that prints these steps as SVG: the processor, a lane for each job that the window shows, or above 400 of

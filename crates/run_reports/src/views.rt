@@ -11,4 +11,4 @@ mod window;
 pub use story::{Asked, why};
 pub use terminal::{grouped_timeline, schedule_timeline, timeline};
 pub use viewer::chrome;
-pub use window::{Window, last_deadline};
+pub use window::Window;

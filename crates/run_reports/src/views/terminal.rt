@@ -15,7 +15,7 @@ use crate::report::{Counts, Fates, count, fates_of, released};
 use crate::views::signs::{put_blanks, put_signs};
 use crate::views::stays::{Stay, Stays};
 use crate::views::template::{put, put_wide};
-use crate::views::window::{Window, last_deadline};
+use crate::views::window::Window;
 use dover_model::{Job, Memory, PackedEvent, Ratio};
 use itoa::Buffer;
 use run_record::intervals::Charge;

@@ -1,10 +1,6 @@
 //! A part of a run's time, and its columns.
 ghost use Rattle.std.specs.Prelude.{◌≡◌, ◌≤◌, ◌<◌, ◌+◌, ◌^◌};
-ghost use Rattle.dover_model.specs.Limits.{last_tick};
-ghost use Rattle.dover_model.specs.Instance as model;
 ghost use Rattle.run_reports.specs.views.Timeline as picture;
-
-use dover_model::Job;
 
 /// The ticks from `from` on and before `until`. A window with `until` at or below `from` has no tick.
 #[derive(Clone, Copy)]
@@ -13,21 +9,6 @@ pub struct Window {
     pub from: u64,
     /// The tick behind its last one.
     pub until: u64,
-}
-
-/// The greatest deadline, 0 where there is no job.
-pub fn last_deadline(jobs: &[Job]) -> u64
-    ensures is { result ≡ model.last_deadline jobs.now }
-    ensures known { result ≤ last_tick }
-{
-    let mut last = 0;
-    for job in jobs {
-        let due = job.deadline();
-        if last <= due {
-            last = due;
-        }
-    }
-    last
 }
 
 impl Window {
