@@ -16,8 +16,8 @@ ghost use Rattle.dover_model.specs.declared.events.Version.TheVariants.{Two};
 ghost use Rattle.dover_top.specs.Requests.{Asks};
 ghost use Rattle.dover_top.specs.declared.request.Request.{Request};
 
-use dover_model::Ratio;
 use dover_model::jobs::MOST_WORK;
+use dover_model::{Ratio, Version};
 use feed_words::serve::AtEnd;
 use line_text::numeral;
 use question_words::Question;
