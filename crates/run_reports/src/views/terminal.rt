@@ -16,6 +16,7 @@ use crate::views::signs::{put_blanks, put_signs};
 use crate::views::stays::{Stay, Stays};
 use crate::views::template::{put, put_wide};
 use crate::views::window::Window;
+use dover_model::jobs::last_deadline;
 use dover_model::{Job, Memory, PackedEvent, Ratio};
 use itoa::Buffer;
 use run_record::intervals::Charge;

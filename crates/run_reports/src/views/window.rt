@@ -2,6 +2,8 @@
 ghost use Rattle.std.specs.Prelude.{◌≡◌, ◌≤◌, ◌<◌, ◌+◌, ◌^◌};
 ghost use Rattle.run_reports.specs.views.Timeline as picture;
 
+use dover_model::Job;
+
 /// The ticks from `from` on and before `until`. A window with `until` at or below `from` has no tick.
 #[derive(Clone, Copy)]
 pub struct Window {
