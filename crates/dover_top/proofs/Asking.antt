@@ -18,7 +18,7 @@ use Rattle.dover_model.specs.declared.factors.Factor.{Factor}
 use Rattle.dover_model.proofs.texts.Numerals.{numeral-decimal}
 use Rattle.dover_top.specs.Requests.{Asks}
 use Rattle.dover_top.specs.Words.{IsFormed, IsScheduleForm, IsTaskForm, factor_words, form_words, schedule_words}
-use Rattle.dover_top.specs.Words.{spelled, task_words}
+use Rattle.dover_top.specs.Words.{spelled, task_form_words}
 use Rattle.dover_top.specs.declared.request.Request.{Request}
 use Rattle.dover_top.specs.declared.request.Request.TheVariants.{Serve, Judge, Report, Trial, Bait, Ask, Lanes, Pause}
 use Rattle.dover_top.specs.declared.request.Request.TheVariants.{Resume, Unroll, Duel, Draw, Sure, Budget, Ratio}
@@ -266,14 +266,14 @@ pub asks_report : (word : String Global) (words : List (String Global)) (r : Req
     → string_bytes word ≡ codes "report" → Asks (word ∷ words) r
     → ((form : Form) × (spelled words ≡ form_words form) × IsFormed form)
     ⊎ (((form : ScheduleForm) × (spelled words ≡ codes "any" ∷ schedule_words form) × IsScheduleForm form)
-    ⊎ ((form : TaskForm) × (spelled words ≡ codes "tasks" ∷ task_words form) × IsTaskForm form))
+    ⊎ ((form : TaskForm) × (spelled words ≡ codes "tasks" ∷ task_form_words form) × IsTaskForm form))
 asks_report word words r is asks =
     by (bytes_eq (word_at 0 (spelled words)) (codes "any")) (bytes_eq (word_at 0 (spelled words)) (codes "tasks"))
     (asks_read word words r (codes "report") is asks) where
       by : (b c : Bool) → Asks (word ∷ words) (report_by b c (codes "report" ∷ spelled words))
           → ((form : Form) × (spelled words ≡ form_words form) × IsFormed form)
           ⊎ (((form : ScheduleForm) × (spelled words ≡ codes "any" ∷ schedule_words form) × IsScheduleForm form)
-          ⊎ ((form : TaskForm) × (spelled words ≡ codes "tasks" ∷ task_words form) × IsTaskForm form))
+          ⊎ ((form : TaskForm) × (spelled words ≡ codes "tasks" ∷ task_form_words form) × IsTaskForm form))
       by true c it = inr (inl (_, ap (drop 1) it.row, it.formed))
       by false true it = inr (inr (_, ap (drop 1) it.row, it.formed))
       by false false it = inl (_, ap (drop 1) it.row, it.formed)

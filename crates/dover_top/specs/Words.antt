@@ -81,10 +81,10 @@ pub record AsksSchedule (words : List (String Global)) (form : ScheduleForm) : T
   pub formed : IsScheduleForm form
 
 -- the words for a form of report on tasks
-abbrev pub task_words : TaskForm → List (List ℕ)
-task_words by_tasks.Lines = []
-task_words (by_tasks.Timeline window) = codes "timeline" ∷ window_words window
-task_words (by_tasks.Svg window) = codes "svg" ∷ window_words window
+abbrev pub task_form_words : TaskForm → List (List ℕ)
+task_form_words by_tasks.Lines = []
+task_form_words (by_tasks.Timeline window) = codes "timeline" ∷ window_words window
+task_form_words (by_tasks.Svg window) = codes "svg" ∷ window_words window
 
 -- a window of it is one
 abbrev pub IsTaskForm : TaskForm → Type 0
@@ -94,7 +94,7 @@ IsTaskForm (by_tasks.Svg window) = IsWindow window
 
 -- the words that ask what became of the jobs of tasks, in this form
 pub record AsksReportTasks (words : List (String Global)) (form : TaskForm) : Type 0 where
-  pub row : spelled words ≡ codes "report" ∷ codes "tasks" ∷ task_words form
+  pub row : spelled words ≡ codes "report" ∷ codes "tasks" ∷ task_form_words form
   pub formed : IsTaskForm form
 
 -- the words that ask for the run of so many jobs of a seed, within a ratio

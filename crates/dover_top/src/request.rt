@@ -7,7 +7,7 @@ ghost use Rattle.stated_jobs.specs.duel.Kept.{IsShare};
 ghost use Rattle.run_reports.specs.declared.views.window.Window.{Window};
 ghost use Rattle.dover_top.specs.Words.{IsFormed, IsFront, IsWindow, form_words, front_words};
 ghost use Rattle.dover_top.specs.Words.{factor_words, window_words, IsScheduleForm, schedule_words};
-ghost use Rattle.dover_top.specs.Words.{IsTaskForm, task_words};
+ghost use Rattle.dover_top.specs.Words.{IsTaskForm, task_form_words};
 ghost use Rattle.task_report.specs.declared.form.TaskForm.{TaskForm as SpelledTaskForm};
 ghost use Rattle.trace_words.specs.declared.schedule.form.ScheduleForm.{ScheduleForm as SpelledForm};
 ghost use Rattle.dover_model.specs.Common.{Fraction, IsRatio, is_some_factor, most_jobs};
@@ -237,10 +237,10 @@ fn schedule(words: &[String]) -> Option<ScheduleForm>
 
 /// The form of a report on tasks of this name, on a window if there is one.
 fn task_form_on(name: &String, window: Option<Window>) -> Option<TaskForm>
-    ensures some { IfSome result (λ f. (string_bytes name.now ∷ window_words window ≡ task_words f)
+    ensures some { IfSome result (λ f. (string_bytes name.now ∷ window_words window ≡ task_form_words f)
         × (IsWindow window → IsTaskForm f)) }
     ensures none { IsNone result → (f : SpelledTaskForm) →
-        string_bytes name.now ∷ window_words window ≡ task_words f → ⊥ }
+        string_bytes name.now ∷ window_words window ≡ task_form_words f → ⊥ }
 {
     match name.as_str() {
         "timeline" => Some(TaskForm::Timeline(window)),
@@ -251,9 +251,9 @@ fn task_form_on(name: &String, window: Option<Window>) -> Option<TaskForm>
 
 /// The words behind `tasks`: none, or a form of picture, and what it is on.
 fn task_form(words: &[String]) -> Option<TaskForm>
-    ensures some { IfSome result (λ f. (map string_bytes words.now ≡ task_words f) × IsTaskForm f) }
+    ensures some { IfSome result (λ f. (map string_bytes words.now ≡ task_form_words f) × IsTaskForm f) }
     ensures none { IsNone result → (f : SpelledTaskForm) → IsTaskForm f →
-        map string_bytes words.now ≡ task_words f → ⊥ }
+        map string_bytes words.now ≡ task_form_words f → ⊥ }
 {
     if words.is_empty() {
         return Some(TaskForm::Lines);

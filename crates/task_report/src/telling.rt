@@ -79,6 +79,33 @@ fn tell_picture<P: Port>(
     }
 }
 
+/// Puts the report on the run of this version that prints these steps, in this form.
+fn tell_run<P: Port>(
+    alloc: Global,
+    port: &mut P,
+    out: &mut Output,
+    form: TaskForm,
+    tasks: &[PeriodicTask],
+    version: Version,
+    ratio: Ratio,
+    steps: Vec<PackedEvent>,
+    refused: u64,
+) -> Result<Status, Stop>
+    requires empty { out.old ≡ [] }
+    requires run { (S : Session) × IsRunBy S version ratio steps.items refused }
+    ensures tells { (trace : List ℕ) (S : Session) → verdict trace ≡ Accepted S →
+        IsRunBy S version ratio steps.items refused →
+        TellsBy form tasks.now trace (P.moves port.old) (P.moves port.new) out.new result }
+    ensures cause { StopCause result
+        (P.write_faults port.old) (P.write_faults port.new) (P.read_faults port.old) (P.read_faults port.new) }
+    ensures stops { StopsOn result (P.calls port.old) (P.calls port.new) }
+{
+    match form {
+        TaskForm::Lines => tell_lines(alloc, port, out, tasks, steps),
+        _ => tell_picture(alloc, port, form, tasks, version, ratio, steps, refused),
+    }
+}
+
 /// Puts the report on the run of an accepted trace, or else the line of the verdict.
 pub(crate) fn tell<P: Port>(
     alloc: Global,
@@ -102,10 +129,11 @@ pub(crate) fn tell<P: Port>(
         refused,
     } = closed;
     match verdict {
-        Verdict::Accepted { ratio, version, .. } => match form {
-            TaskForm::Lines => tell_lines(alloc, port, out, tasks, steps),
-            _ => tell_picture(alloc, port, form, tasks, version, ratio, steps, refused),
-        },
+        Verdict::Accepted { ratio, version, .. } => {
+            tell_run(
+                alloc, port, out, form, tasks, version, ratio, steps, refused,
+            )
+        }
         _ => {
             drop(steps);
             match put_verdict(port, out, &verdict) {

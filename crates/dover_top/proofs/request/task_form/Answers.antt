@@ -4,12 +4,12 @@ use Rattle.std.specs.declared.alloc.Global.{Global}
 use Rattle.task_report.specs.declared.form.TaskForm.{TaskForm}
 use Rattle.task_report.specs.declared.form.TaskForm.TheVariants.{Lines, Timeline, Svg}
 use Rattle.run_reports.specs.declared.views.window.Window.{Window}
-use Rattle.dover_top.specs.Words.{IsTaskForm, IsWindow, spelled, task_words, window_words}
+use Rattle.dover_top.specs.Words.{IsTaskForm, IsWindow, spelled, task_form_words, window_words}
 use Rattle.dover_top.proofs.Asking.{length_spelled, row_of}
 use Rattle.dover_top.proofs.request.task_form.Goals as goal
 
 -- without a window no words name a form
-no_form : (name : List ℕ) (words : List (List ℕ)) (form : TaskForm) → name ∷ words ≡ task_words form
+no_form : (name : List ℕ) (words : List (List ℕ)) (form : TaskForm) → name ∷ words ≡ task_form_words form
     → IsTaskForm form → ((window : Option Window) → IsWindow window → words ≡ window_words window → ⊥) → ⊥
 no_form name words Lines e formed none = absurd (omega (arith, ap length e))
 no_form name words (Timeline window) e formed none = none window formed (ap (drop 1) e)

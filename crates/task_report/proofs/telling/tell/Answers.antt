@@ -1,23 +1,15 @@
-use Rattle.std.proofs.Common.{◌∙◌, ap, true}
-use Rattle.trace_judge.specs.Judging.{steps_told}
 use Rattle.task_report.proofs.Told.{line_cut, line_put, run_by}
 use Rattle.task_report.proofs.telling.tell.Goals as goal
 
-pub returns-in-Lines-clause-tells : goal.returns-in-Lines-clause-tells
-returns-in-Lines-clause-tells g c = λ trace closed. let tells = rw c.in-Accepted.is at closed.tells in
-    rw c.in-Lines.is (c.tell_lines.ensures.tells trace tells.0 tells.7.valid tells.1
-    (closed.steps ∙ ap (λ v. steps_told true v) tells.1))
-
-pub tell_picture-requires-clause-run : goal.tell_picture-requires-clause-run
-tell_picture-requires-clause-run g c = let tells = rw c.in-Accepted.is at c.requires.closed.1.tells in (
+pub tell_run-requires-clause-run : goal.tell_run-requires-clause-run
+tell_run-requires-clause-run g c = let tells = rw c.in-Accepted.is at c.requires.closed.1.tells in (
   tells.0,
   run_by _ _ _ _ _ c.requires.closed.0 tells _ _ c.requires.closed.1.steps c.requires.closed.1.refused,
 )
 
-pub returns-in_default-clause-tells : goal.returns-in_default-clause-tells
-returns-in_default-clause-tells g c = λ trace closed. let tells = rw c.in-Accepted.is at closed.tells in
-    rw c.requires.empty (c.tell_picture.ensures.tells trace tells.0 tells.1
-    (run_by _ _ _ _ _ trace tells _ _ closed.steps closed.refused))
+pub returns-in-Accepted-clause-tells : goal.returns-in-Accepted-clause-tells
+returns-in-Accepted-clause-tells g c = λ trace closed. let tells = rw c.in-Accepted.is at closed.tells in
+    c.tell_run.ensures.tells trace tells.0 tells.1 (run_by _ _ _ _ _ trace tells _ _ closed.steps closed.refused)
 
 pub put_verdict-requires : goal.put_verdict-requires
 put_verdict-requires g c = (c.requires.closed.0, c.requires.closed.1.tells)
@@ -32,11 +24,11 @@ returns-in-Err-clause-tells g c = λ trace closed.
     line_cut c.args.form c.args.tasks.now c.args.closed.verdict trace closed.tells c.in_default.not-Accepted _ _
     c.put_verdict.new.out (rw c.requires.empty at (c.in-Err.ensures.text trace closed.tells).part)
 
-pub returns-in-Lines-clause-cause : goal.returns-in-Lines-clause-cause
-returns-in-Lines-clause-cause g c = c.tell_lines.ensures.cause
+pub returns-in-Accepted-clause-cause : goal.returns-in-Accepted-clause-cause
+returns-in-Accepted-clause-cause g c = c.tell_run.ensures.cause
 
-pub returns-in-Lines-clause-stops : goal.returns-in-Lines-clause-stops
-returns-in-Lines-clause-stops g c = c.tell_lines.ensures.stops
+pub returns-in-Accepted-clause-stops : goal.returns-in-Accepted-clause-stops
+returns-in-Accepted-clause-stops g c = c.tell_run.ensures.stops
 
 pub returns-in-Ok-clause-cause : goal.returns-in-Ok-clause-cause
 returns-in-Ok-clause-cause g c = (c.in-Ok.ensures.cause.ok, c.in-Ok.ensures.cause.other)

@@ -43,3 +43,27 @@ returns-clause-tells g c = λ trace S accepted of.
     (λ listable. never (sym c.if-is_small.false ∙ (c.is_small.ensures (instance_of S) (session_jobs of.valid)
     (sym (c.deref.ensures.value ∙ of.prints)) of.version_is).1 listable)) c.in-Err-put_size.stop
     c.in-Err-put_size.ensures.puts
+
+pub returns-in-Ok-clause-cause : goal.returns-in-Ok-clause-cause
+returns-in-Ok-clause-cause g c = c.in-Ok.ensures.cause
+
+pub returns-in-Ok-clause-stops : goal.returns-in-Ok-clause-stops
+returns-in-Ok-clause-stops g c = c.in-Ok.ensures.stops
+
+pub returns-in-Err-clause-cause : goal.returns-in-Err-clause-cause
+returns-in-Err-clause-cause g c = c.in-Err.ensures.cause
+
+pub returns-in-Err-clause-stops : goal.returns-in-Err-clause-stops
+returns-in-Err-clause-stops g c = c.in-Err.ensures.stops
+
+pub returns-in-Ok-put_size-clause-cause : goal.returns-in-Ok-put_size-clause-cause
+returns-in-Ok-put_size-clause-cause g c = c.in-Ok-put_size.ensures.cause
+
+pub returns-in-Ok-put_size-clause-stops : goal.returns-in-Ok-put_size-clause-stops
+returns-in-Ok-put_size-clause-stops g c = c.in-Ok-put_size.ensures.stops
+
+pub returns-clause-cause : goal.returns-clause-cause
+returns-clause-cause g c = c.in-Err-put_size.ensures.cause
+
+pub returns-clause-stops : goal.returns-clause-stops
+returns-clause-stops g c = c.in-Err-put_size.ensures.stops
