@@ -179,7 +179,7 @@ fn put_long<L: Ledger>(heap: &mut Heap<LongRank>, comparisons: &mut Comparisons<
     ensures { length heap.new ≡ 200 }
 {
     for (key, tie, number, place) in &LONG {
-        if *tie < 1 << 76 && *place < 200 {
+        if *tie < 1 << 96 && *place < 200 {
             heap.remove(*place, comparisons);
             heap.insert(Item::long(*key, *tie, *number, *place), comparisons);
         }
