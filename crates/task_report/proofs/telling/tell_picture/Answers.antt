@@ -11,7 +11,7 @@ picture-requires-clause-run g c =
     let S = c.requires.run.0 in
     let of = c.requires.run.1 in (
       instance_of S,
-      same_run _ _ _ _ c.deref-2.ensures.value (run_of S _ _ _ _ of ((c.is_small.ensures (instance_of S)
+      same_run _ _ _ _ c.deref-then-is_small.ensures.value (run_of S _ _ _ _ of ((c.is_small.ensures (instance_of S)
           (session_jobs of.valid) (sym (c.deref.ensures.value ∙ of.prints)) of.version_is).0 c.if-is_small.true)),
     )
 
@@ -21,15 +21,15 @@ returns-in-Ok-clause-tells g c = λ trace S accepted of.
     (sym (c.deref.ensures.value ∙ of.prints)) of.version_is).0 c.if-is_small.true in
     drawn_put c.args.form c.args.tasks.now c.requires.drawn trace S accepted _ _ _ c.args.refused of _ _ listable _
     (c.in-Ok.ensures.puts _ (c.picture.ensures (instance_of S)
-    (same_run _ _ _ _ c.deref-2.ensures.value (run_of S _ _ _ _ of listable))))
+    (same_run _ _ _ _ c.deref-then-is_small.ensures.value (run_of S _ _ _ _ of listable))))
 
-pub returns-in-Err-clause-tells : goal.returns-in-Err-clause-tells
-returns-in-Err-clause-tells g c = λ trace S accepted of.
+pub returns-then-is_small-clause-tells : goal.returns-then-is_small-clause-tells
+returns-then-is_small-clause-tells g c = λ trace S accepted of.
     let listable = (c.is_small.ensures (instance_of S) (session_jobs of.valid)
     (sym (c.deref.ensures.value ∙ of.prints)) of.version_is).0 c.if-is_small.true in
     drawn_cut c.args.form c.args.tasks.now c.requires.drawn trace S accepted _ _ _ c.args.refused of _ _ listable
     c.in-Err.stop (c.in-Err.ensures.puts _ (c.picture.ensures (instance_of S)
-    (same_run _ _ _ _ c.deref-2.ensures.value (run_of S _ _ _ _ of listable))))
+    (same_run _ _ _ _ c.deref-then-is_small.ensures.value (run_of S _ _ _ _ of listable))))
 
 pub returns-in-Ok-put_size-clause-tells : goal.returns-in-Ok-put_size-clause-tells
 returns-in-Ok-put_size-clause-tells g c = λ trace S accepted of.
@@ -50,11 +50,11 @@ returns-in-Ok-clause-cause g c = c.in-Ok.ensures.cause
 pub returns-in-Ok-clause-stops : goal.returns-in-Ok-clause-stops
 returns-in-Ok-clause-stops g c = c.in-Ok.ensures.stops
 
-pub returns-in-Err-clause-cause : goal.returns-in-Err-clause-cause
-returns-in-Err-clause-cause g c = c.in-Err.ensures.cause
+pub returns-then-is_small-clause-cause : goal.returns-then-is_small-clause-cause
+returns-then-is_small-clause-cause g c = c.in-Err.ensures.cause
 
-pub returns-in-Err-clause-stops : goal.returns-in-Err-clause-stops
-returns-in-Err-clause-stops g c = c.in-Err.ensures.stops
+pub returns-then-is_small-clause-stops : goal.returns-then-is_small-clause-stops
+returns-then-is_small-clause-stops g c = c.in-Err.ensures.stops
 
 pub returns-in-Ok-put_size-clause-cause : goal.returns-in-Ok-put_size-clause-cause
 returns-in-Ok-put_size-clause-cause g c = c.in-Ok-put_size.ensures.cause

@@ -6,7 +6,7 @@ use Rattle.task_report.proofs.Reading.{ready_none}
 use Rattle.task_report.proofs.word.task_report_word.Goals as goal
 
 -- what the call is about
-about : TaskForm → ℕ → Call
+abbrev about : TaskForm → ℕ → Call
 about form start = record { form = form; start = start }
 
 pub converse-requires : goal.converse-requires
