@@ -1,12 +1,16 @@
--- The labels of tasks, one by one.
+-- The labels of tasks, one by one, and what is drawn of the jobs of tasks.
 use Rattle.std.proofs.Common.{◌≡◌, ℕ, suc, ◌+◌, ◌≤◌, ◌<◌, List, [], ◌∷◌, ◌++◌, length, map, drop, get_or, sym, ap, ◌∙◌}
-use Rattle.std.proofs.Common.{add-one, append-nil, append_assoc, drop-cons}
+use Rattle.std.proofs.Common.{add-one, append-nil, append_assoc, drop-cons, Option}
 use Rattle.std.proofs.lemmas.List.{drop_all, map-append}
-use Rattle.dover_model.specs.JobFacts.{JobFacts}
+use Rattle.dover_model.specs.Common.{Instance, JobFacts}
+use Rattle.run_picture.specs.Pictures.{grouped_picture}
+use Rattle.run_reports.specs.declared.views.window.Window.{Window}
 use Rattle.run_reports.specs.views.Templates.{Text}
+use Rattle.run_reports.specs.views.Timeline.{grouped_timeline}
 use Rattle.task_words.specs.declared.tasks.task.PeriodicTask.{PeriodicTask}
-use Rattle.task_report.specs.Pictures.{label_of, labels, labels_from}
+use Rattle.task_report.specs.Pictures.{label_of, labels, labels_from, task_text, tasks_of}
 use Rattle.task_report.specs.Tallies.{task_of}
+use Rattle.task_report.specs.declared.form.TaskForm.TheVariants.{Timeline, Svg}
 
 -- one task more
 pub labels_more : {V : Type 0} (f : V → Text) (tasks : List PeriodicTask) (i : ℕ) (d : PeriodicTask) (own next : List V)
@@ -27,10 +31,20 @@ pub labels_all : (tasks : List PeriodicTask) (i : ℕ) (own whole : List Text) �
 labels_all tasks i own whole past before = sym (append-nil own)
     ∙ ap (λ ts. own ++ labels_from i ts) (sym (drop_all i tasks past)) ∙ before
 
--- what is drawn of jobs in groups is drawn of the jobs of tasks
-pub drawn_same : (draw : List ℕ → List Text → Text) (tasks : List PeriodicTask) (jobs own : List JobFacts)
-    (of : List ℕ) (heads : List Text) → own ≡ jobs → of ≡ map (task_of tasks) own → heads ≡ labels tasks of
-    → draw of heads ≡ draw (map (task_of tasks) jobs) (labels tasks (map (task_of tasks) jobs))
-drawn_same draw tasks jobs own of heads released sorted named =
-    let is : of ≡ map (task_of tasks) jobs = sorted ∙ ap (map (task_of tasks)) released in
-    ap (draw of) named ∙ ap (λ o. draw o (labels tasks o)) is
+module _ (tasks : List PeriodicTask) (J : Instance) (own : List JobFacts) (of : List ℕ) (heads : List Text)
+    (released : own ≡ J.jobs) (sorted : of ≡ map (task_of tasks) own) (named : heads ≡ labels tasks of)
+    (window : Option Window) where
+  -- the groups are the tasks
+  groups : of ≡ tasks_of tasks J
+  groups = sorted ∙ ap (map (task_of tasks)) released
+
+  -- what is drawn of jobs in groups is drawn of the jobs of tasks
+  pub timeline_text : (refused : ℕ) (text : Text) → text ≡ grouped_timeline window of heads J
+      → text ≡ task_text (Timeline window) tasks refused J
+  timeline_text refused text is = is ∙ ap (λ h. grouped_timeline window of h J) named
+      ∙ ap (λ o. grouped_timeline window o (labels tasks o) J) groups
+
+  pub svg_text : (refused : ℕ) (text : Text) → text ≡ grouped_picture window refused of heads J
+      → text ≡ task_text (Svg window) tasks refused J
+  svg_text refused text is = is ∙ ap (λ h. grouped_picture window refused of h J) named
+      ∙ ap (λ o. grouped_picture window refused o (labels tasks o) J) groups
