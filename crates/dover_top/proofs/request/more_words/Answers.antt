@@ -65,13 +65,14 @@ returns-in_ok-seed-in-draw-clause-some c = let it = c.in_ok-seed-in-draw.ensures
 pub returns-in_err-until-in-unroll-clause-none : goal.returns-in_err-until-in-unroll-clause-none
 returns-in_err-until-in-unroll-clause-none c = λ _ r asks.
     let it = asks_read _ _ r (codes "unroll") (sym c.as_str.ensures.value ∙ c.in-unroll.is) asks in
-    c.in_err-until-in-unroll.ensures.none refl _ (omega arith) it.known (ap (drop 1) it.row)
+    c.in_err-until-in-unroll.ensures.none refl _ (omega arith) (omega (arith, it.known, c.last_tick.ensures))
+    (ap (drop 1) it.row)
 
 pub returns-in_ok-until-in-unroll-clause-some : goal.returns-in_ok-until-in-unroll-clause-some
 returns-in_ok-until-in-unroll-clause-some c = record {
   row = row_of c.args.word.now c.args.words.now _ _ (sym c.as_str.ensures.value ∙ c.in-unroll.is)
       c.in_ok-until-in-unroll.ensures.some.0;
-  known = c.in_ok-until-in-unroll.ensures.some.2;
+  known = omega (arith, c.in_ok-until-in-unroll.ensures.some.2, c.last_tick.ensures);
 }
 
 pub returns-in_err-cost-in-budget-clause-none : goal.returns-in_err-cost-in-budget-clause-none
