@@ -9,7 +9,7 @@ summary-requires c = (
   record { rules = record { ratio = fraction 1 1; version = One; finishes = [] }; jobs = [] },
   record {
     valid = record { passes = refl };
-    listable = record { count = omega arith; total = omega arith };
+    listable = record { count = omega arith; total = omega arith; due = omega arith };
     ratio = sym c.in-Some.ensures.facts;
     prints = sym c.steps.ensures;
   },
