@@ -1,3 +1,4 @@
+pub mod Listing
 pub mod Snapped
 pub mod Talking
 pub mod Putting

@@ -1,3 +1,4 @@
 pub mod Talk
+pub mod Listing
 pub mod Keeping
 pub mod Spending

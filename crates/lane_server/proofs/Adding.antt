@@ -19,8 +19,8 @@ use Rattle.event_feed.specs.Answers.{DeclaresRatio, MovesMark, EndsFeed, NewFaul
 use Rattle.event_feed.specs.declared.faults.FeedFault.{FeedFault}
 use Rattle.lane_server.specs.Lanes.{lines_added}
 use Rattle.lane_server.specs.Lane.{Fits, Running, reach}
-use Rattle.ready_server.specs.Rostering.{Serves}
-use Rattle.ready_server.specs.declared.roster_server.RosterServer.{RosterServer}
+use Rattle.ready_server.specs.Serving.{Serves}
+use Rattle.ready_server.specs.declared.server.ReadyServer.{ReadyServer}
 
 -- ---- accounts
 
@@ -129,7 +129,7 @@ pub reach_open : (a : Account) → a.standing ≡ Open → reach a ≡ Mark a.ma
 reach_open a stands = reach_by a Open stands
 
 -- the server of an account's session has printed what is settled
-pub open_serves : (a : Account) (S : Session) (v : RosterServer) → Fits a (Some v) → a.session ≡ Some S
+pub open_serves : (a : Account) (S : Session) (v : ReadyServer) → Fits a (Some v) → a.session ≡ Some S
     → a.standing ≡ Open → Serves v (instance_of S) (Mark a.mark) (settled (instance_of S) a.mark)
 open_serves a S v fits there stands =
     subst (λ h. Serves v (instance_of S) h (due_by (instance_of S) h)) (reach_open a stands)
@@ -137,7 +137,7 @@ open_serves a S v fits there stands =
     (one_session fits.0 S a fits.1 there) fits.2)
 
 -- it fits another account for which as much is due
-pub fits_same : (a b : Account) (server : Option RosterServer) → b.session ≡ a.session → reach b ≡ reach a
+pub fits_same : (a b : Account) (server : Option ReadyServer) → b.session ≡ a.session → reach b ≡ reach a
     → Fits a server → Fits b server
 fits_same a b None same far fits = same ∙ fits
 fits_same a b (Some v) same far fits = (
@@ -179,7 +179,7 @@ module _ (a b : Account) (k : Fraction) (version : Version) (stands : a.standing
       ∙ ap (λ ls. ls ++ header (rules_with k version) ∷ []) (sym (due_nothing a it.first stands))
 
   -- a new server has served all that is settled
-  pub header_fits : (v : RosterServer) → Serves v (no_jobs version k) (Mark 0) []
+  pub header_fits : (v : ReadyServer) → Serves v (no_jobs version k) (Mark 0) []
       → Fits b (Some v)
   header_fits v new = (
     started,
@@ -199,7 +199,7 @@ new_fault_due bytes fault a b it = due_fault a b (suc a.lines) (cause_of_fault f
 
 -- and as much of the session is due as before
 pub new_fault_fits : (bytes : List ℕ) (fault : FeedFault) (a b : Account)
-    (server : Option RosterServer) → NewFault bytes fault a b → Fits a server → Fits b server
+    (server : Option ReadyServer) → NewFault bytes fault a b → Fits a server → Fits b server
 new_fault_fits bytes fault a b server it fits =
     fits_same a b server (ap (λ (x : Account). x.session) it.after_is)
     (reach_by b _ (ap (λ (x : Account). x.standing) it.after_is)
@@ -261,7 +261,7 @@ module _ (a b : Account) (t : ℕ) (kept : IsKept a) (stands : a.standing ≡ Op
       tick_begins.1
 
   -- they are left
-  pub tick_owes : (v : RosterServer) → Fits a (Some v)
+  pub tick_owes : (v : ReadyServer) → Fits a (Some v)
       → Running (Mark t) v b tick_rest
   tick_owes v fits = record {
     session = it.session;
@@ -306,7 +306,7 @@ module _ (a b : Account) (kept : IsKept a) (stands : a.standing ≡ Open) (it : 
       (due_ended b it.session (ap (λ (x : Account). x.session) it.after_is ∙ it.before_is) end_stands) end_begins.1
 
   -- they are left
-  pub end_owes : (v : RosterServer) → Fits a (Some v) → Running End v b end_rest
+  pub end_owes : (v : ReadyServer) → Fits a (Some v) → Running End v b end_rest
   end_owes v fits = record {
     session = it.session;
     there = ap (λ (x : Account). x.session) it.after_is ∙ it.before_is;
@@ -340,7 +340,7 @@ module _ (a b : Account) (S : Session) (line : RefusedLine) (kept : IsKept a) (s
       ∙ ap (λ ls. ls ++ refused_text refused ∷ []) (sym (due_open a S there stands))
 
   -- the server has served the session with it
-  pub refused_fits : (server : Option RosterServer) → Fits a server
+  pub refused_fits : (server : Option ReadyServer) → Fits a server
       → Fits b server
   refused_fits None fits = absurd (let e : None ≡ Some S = sym fits ∙ there in cc)
   refused_fits (Some v) fits = (

@@ -19,8 +19,8 @@ use Rattle.lane_server.specs.declared.lane.Work.TheVariants.{Nothing}
 use Rattle.lane_server.proofs.Adding.{account_next, added_is, lines_kept, open_serves, open_stands, opens_by}
 use Rattle.lane_server.proofs.Adding.{reach_open}
 use Rattle.ready_server.proofs.Rostered.{served_jobs}
-use Rattle.ready_server.specs.Rostering.{Serves}
-use Rattle.ready_server.specs.declared.roster_server.RosterServer.{RosterServer}
+use Rattle.ready_server.specs.Serving.{Serves}
+use Rattle.ready_server.specs.declared.server.ReadyServer.{ReadyServer}
 
 -- a feed that has ended doesn't go on
 pub ended_over : (a : Account) → is_ended a ≡ true → is_open a ≡ false
@@ -88,8 +88,8 @@ module _ (lane : Lane) (ls : List (List ℕ)) (it : IsQuiet lane ls) where
       (subst (Fits (account_of_lines ls)) none fits_there))
 
   -- otherwise it has as many jobs as the server
-  pub jobs_where : (v : RosterServer) → lane.server ≡ Some v
-      → Some v.server.ready.jobs
+  pub jobs_where : (v : ReadyServer) → lane.server ≡ Some v
+      → Some v.ready.jobs
       ≡ option_map (λ (S : Session). length (admitted_jobs S.items)) (account_of_lines ls).session
   jobs_where v there =
       let fits : Fits (account_of_lines ls) (Some v) = subst (Fits (account_of_lines ls)) there fits_there in
@@ -101,11 +101,11 @@ module _ (lane : Lane) (ls : List (List ℕ)) (it : IsQuiet lane ls) where
 module _ (ls : List (List ℕ))
     (stands : (account_of_lines ls).standing ≡ Open) where
   -- the server has taken the run of this session to the mark
-  abbrev pub AtMark : RosterServer → Session → ℕ → Type 0
+  abbrev pub AtMark : ReadyServer → Session → ℕ → Type 0
   AtMark v S mark = Serves v (instance_of S) (Mark mark) (settled (instance_of S) mark)
 
   -- its server has
-  pub quiet_serves : (lane : Lane) → IsQuiet lane ls → (v : RosterServer) → lane.server ≡ Some v
+  pub quiet_serves : (lane : Lane) → IsQuiet lane ls → (v : ReadyServer) → lane.server ≡ Some v
       → (S : Session) × ((account_of_lines ls).session ≡ Some S) × AtMark v S (account_of_lines ls).mark
   quiet_serves lane it v there =
       let owes = subst (λ w. Owes w lane.server (account_of_lines ls) []) it.quiet it.stands.owes in
@@ -113,13 +113,12 @@ module _ (ls : List (List ℕ))
       (fits.0, fits.1, open_serves (account_of_lines ls) fits.0 v fits fits.1 stands)
 
   -- so a lane is quiet that goes on with such a server
-  pub quiet_on : (intake : feed.Kept) (v : RosterServer) (listed : Bool) (S : Session) (mark : ℕ)
+  pub quiet_on : (intake : feed.Kept) (v : ReadyServer) (S : Session) (mark : ℕ)
       → feed.StandsFor intake ls → feed.IsGoing intake
       → (account_of_lines ls).session ≡ Some S → mark ≡ (account_of_lines ls).mark
       → AtMark v S (account_of_lines ls).mark
-      → IsQuiet
-      (record { intake = intake; server = Some v; mark = mark; is_open = true; work = Nothing; listed = listed }) ls
-  quiet_on intake v listed S mark it going there marked served = record {
+      → IsQuiet (record { intake = intake; server = Some v; mark = mark; is_open = true; work = Nothing }) ls
+  quiet_on intake v S mark it going there marked served = record {
     stands = record {
       intake = it;
       opened = sym (opens_by (account_of_lines ls) Open stands);

@@ -25,7 +25,7 @@ use Rattle.lane_server.specs.declared.lane.Work.{Work}
 use Rattle.lane_server.specs.declared.lane.Work.TheVariants.{Nothing, Give, Run, Admit, Finish}
 use Rattle.lane_server.specs.declared.lanes.Phase.{Phase}
 use Rattle.lane_server.specs.declared.lanes.Phase.TheVariants.{Ready, Giving, Closing}
-use Rattle.ready_server.specs.declared.roster_server.RosterServer.{RosterServer}
+use Rattle.ready_server.specs.declared.server.ReadyServer.{ReadyServer}
 
 -- what is due is few
 few_due : (J : Instance) (to : Horizon) → IsValid J → length (due_by J to) ≤ 20_000_000_001
@@ -80,7 +80,7 @@ job_few S j events left valid is = by_room (is_full (instance_of S) j.release) w
       )
 
 -- what the work under way still gives
-pub owes_few : (work : Work) (server : Option RosterServer) (a : Account)
+pub owes_few : (work : Work) (server : Option ReadyServer) (a : Account)
     (rest : List (List ℕ)) → Owes work server a rest → length rest ≤ 20_000_000_002
 owes_few Nothing server a rest owes = omega (arith, ap length owes.0)
 owes_few (Give out) server a rest owes = omega (arith, ap length owes.0)

@@ -28,8 +28,8 @@ use Rattle.lane_server.specs.Lane.{Fits, Running, Finishing, done_item, done_lin
 use Rattle.lane_server.proofs.Adding.{holds_of, due_open, reach_open, open_serves, drop_front}
 use Rattle.lane_server.proofs.Owing.{first_left, none_left, fits_at}
 use Rattle.lane_server.proofs.Printing.{event_short}
-use Rattle.ready_server.specs.Rostering.{Serves, Rests}
-use Rattle.ready_server.specs.declared.roster_server.RosterServer.{RosterServer}
+use Rattle.ready_server.specs.Serving.{Serves, Rests}
+use Rattle.ready_server.specs.declared.server.ReadyServer.{ReadyServer}
 
 -- ---- the item of a done line
 
@@ -157,7 +157,7 @@ module _ (a b : Account) (t n : ℕ) (kept : IsKept a) (stands : a.standing ≡ 
   tick_short = omega (arith, tick_there)
 
   -- they are left
-  pub done_owes : (v : RosterServer) → Fits a (Some v) → Finishing t n v b done_rest
+  pub done_owes : (v : ReadyServer) → Fits a (Some v) → Finishing t n v b done_rest
   done_owes v fits = record {
     session = it.session;
     there = done_there;
@@ -175,10 +175,10 @@ module _ (a b : Account) (t n : ℕ) (kept : IsKept a) (stands : a.standing ≡ 
 
 -- ---- what is left after a step of the server
 
-module _ (begins : (s : RosterServer) (J : Instance) (to : Horizon) (events : List Event) → Serves s J to events
+module _ (begins : (s : ReadyServer) (J : Instance) (to : Horizon) (events : List Event) → Serves s J to events
     → Begins events (due_by J to)) (t n : ℕ) where
   -- before the finish, a step without it gives the first line that is left
-  pub before_finish : (v u : RosterServer) (a : Account) (rest : List (List ℕ)) (it : Finishing t n v a rest)
+  pub before_finish : (v u : ReadyServer) (a : Account) (rest : List (List ℕ)) (it : Finishing t n v a rest)
       (e : Event) → Serves u (instance_of it.session) (Mark t) (it.events ++ e ∷ [])
       → (more : List (List ℕ)) × (rest ≡ text_of e ∷ more) × Finishing t n u a more × AreShort (step_numbers e)
   before_finish v u a rest it e served =
@@ -205,13 +205,13 @@ module _ (begins : (s : RosterServer) (J : Instance) (to : Horizon) (events : Li
       )
 
   -- where all is given without it, the lines that it adds are left
-  lines_left : (v : RosterServer) (a : Account) (rest : List (List ℕ)) (it : Finishing t n v a rest)
+  lines_left : (v : ReadyServer) (a : Account) (rest : List (List ℕ)) (it : Finishing t n v a rest)
       → it.events ≡ settled (instance_of it.session) t → rest ≡ done_lines it.session t n
   lines_left v a rest it all = it.texts ∙ ap (λ es. map text_of es ++ done_lines it.session t n)
       (none_left it.events it.left (settled (instance_of it.session) t) it.due all)
 
   -- there the finish gives the completion, where it is right
-  pub at_finish : (v u : RosterServer) (a : Account) (rest : List (List ℕ)) (it : Finishing t n v a rest)
+  pub at_finish : (v u : ReadyServer) (a : Account) (rest : List (List ℕ)) (it : Finishing t n v a rest)
       → it.events ≡ settled (instance_of it.session) t
       → (f : EarlyFinish) → finish_at (instance_of it.session) t n ≡ Some f → (e : Event)
       → Serves u (with_finishes (instance_of it.session) (f.finish ∷ [])) (Mark t)
@@ -247,10 +247,10 @@ module _ (begins : (s : RosterServer) (J : Instance) (to : Horizon) (events : Li
         event_short K (Mark t) (settled (instance_of S) t) e valid front,
       )
 
-module _ (rested : (s : RosterServer) (J : Instance) (to : Horizon) → Rests s J to → Serves s J to (due_by J to))
+module _ (rested : (s : ReadyServer) (J : Instance) (to : Horizon) → Rests s J to → Serves s J to (due_by J to))
     (t n : ℕ) where
   -- and where it isn't, the line that refuses it is the last
-  pub at_refusal : (v u : RosterServer) (a : Account) (rest : List (List ℕ)) (it : Finishing t n v a rest)
+  pub at_refusal : (v u : ReadyServer) (a : Account) (rest : List (List ℕ)) (it : Finishing t n v a rest)
       → it.events ≡ settled (instance_of it.session) t
       → finish_at (instance_of it.session) t n ≡ None → Rests u (instance_of it.session) (Mark t)
       → (rest ≡ refused_text (refused it.session t n) ∷ []) × Fits a (Some u)

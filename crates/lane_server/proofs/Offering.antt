@@ -33,8 +33,8 @@ use Rattle.lane_server.specs.declared.lane.Work.TheVariants.{Admit}
 use Rattle.lane_server.proofs.Adding.{holds_of, due_open, reach_open, open_serves, drop_front}
 use Rattle.lane_server.proofs.Owing.{first_left, none_left, fits_at}
 use Rattle.lane_server.proofs.Printing.{due_before, event_short}
-use Rattle.ready_server.specs.Rostering.{Serves, Rests, HasPlaceUnlessFull}
-use Rattle.ready_server.specs.declared.roster_server.RosterServer.{RosterServer}
+use Rattle.ready_server.specs.Serving.{Serves, Rests, HasPlaceUnlessFull}
+use Rattle.ready_server.specs.declared.server.ReadyServer.{ReadyServer}
 
 -- ---- the item of a job line
 
@@ -133,7 +133,7 @@ module _ (a b : Account) (n : ℕ) (j : JobFacts) (kept : IsKept a) (stands : a.
       ∙ append_assoc (due_lines a) (map text_of job_begins.0) (job_lines it.session j)
 
   -- they are left, once there is room for the job, if there may be
-  pub job_owes : (v u : RosterServer) → Fits a (Some v)
+  pub job_owes : (v u : ReadyServer) → Fits a (Some v)
       → ((J : Instance) (to : Horizon) (events : List Event) → Serves v J to events → Serves u J to events)
       → HasPlaceUnlessFull u
       → Admitting j u b job_rest
@@ -156,10 +156,10 @@ module _ (a b : Account) (n : ℕ) (j : JobFacts) (kept : IsKept a) (stands : a.
 
 -- ---- what is left after a step of the server
 
-module _ (begins : (s : RosterServer) (J : Instance) (to : Horizon) (events : List Event) → Serves s J to events
+module _ (begins : (s : ReadyServer) (J : Instance) (to : Horizon) (events : List Event) → Serves s J to events
     → Begins events (due_by J to)) (j : JobFacts) where
   -- before the job, a step without it gives the first line that is left
-  pub before_admission : (v u : RosterServer) (a : Account) (rest : List (List ℕ)) (it : Admitting j v a rest)
+  pub before_admission : (v u : ReadyServer) (a : Account) (rest : List (List ℕ)) (it : Admitting j v a rest)
       (e : Event) → Serves u (instance_of it.session) (Mark j.release) (it.events ++ e ∷ []) → HasPlaceUnlessFull u
       → (more : List (List ℕ)) × (rest ≡ text_of e ∷ more) × Admitting j u a more × AreShort (step_numbers e)
   before_admission v u a rest it e served room =
@@ -190,13 +190,13 @@ module _ (begins : (s : RosterServer) (J : Instance) (to : Horizon) (events : Li
       )
 
   -- where all is given without it, the lines that it adds are left
-  pub lines_left : (v : RosterServer) (a : Account) (rest : List (List ℕ)) (it : Admitting j v a rest)
+  pub lines_left : (v : ReadyServer) (a : Account) (rest : List (List ℕ)) (it : Admitting j v a rest)
       → it.events ≡ settled (instance_of it.session) j.release → rest ≡ job_lines it.session j
   lines_left v a rest it all = it.texts ∙ ap (λ es. map text_of es ++ job_lines it.session j)
       (none_left it.events it.left (settled (instance_of it.session) j.release) it.due all)
 
   -- there the job gives its release, where it finds room
-  pub at_admission : (v u : RosterServer) (a : Account) (rest : List (List ℕ)) (it : Admitting j v a rest)
+  pub at_admission : (v u : ReadyServer) (a : Account) (rest : List (List ℕ)) (it : Admitting j v a rest)
       → it.events ≡ settled (instance_of it.session) j.release
       → is_full (instance_of it.session) j.release ≡ false → (e : Event)
       → Serves u (with_jobs (instance_of it.session) (j ∷ [])) (Mark j.release)
@@ -232,10 +232,10 @@ module _ (begins : (s : RosterServer) (J : Instance) (to : Horizon) (events : Li
         event_short L (Mark j.release) (settled (instance_of S) j.release) e it.valid front,
       )
 
-  module _ (rested : (s : RosterServer) (J : Instance) (to : Horizon) → Rests s J to
+  module _ (rested : (s : ReadyServer) (J : Instance) (to : Horizon) → Rests s J to
       → Serves s J to (due_by J to)) where
     -- and where it finds none, the line that refuses it is the last
-    pub at_passing : (v u : RosterServer) (a : Account) (rest : List (List ℕ)) (it : Admitting j v a rest)
+    pub at_passing : (v u : ReadyServer) (a : Account) (rest : List (List ℕ)) (it : Admitting j v a rest)
         → it.events ≡ settled (instance_of it.session) j.release
         → is_full (instance_of it.session) j.release ≡ true → Rests u (instance_of it.session) (Mark j.release)
         → (rest ≡ refused_text (refused it.session j) ∷ []) × Fits a (Some u)

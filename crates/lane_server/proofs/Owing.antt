@@ -1,22 +1,26 @@
 -- What is left after a step of the server.
-use Rattle.std.proofs.Common.{◌≡◌, List, [], ◌∷◌, ◌++◌, ℕ, map, refl, sym, ap, ◌∙◌, subst, Some}
+use Rattle.std.proofs.Common.{◌≡◌, List, [], ◌∷◌, ◌++◌, ℕ, map, refl, sym, ap, ◌∙◌, subst, Option, Some, None, Bool, true}
 use Rattle.std.proofs.lemmas.List.{append-nil, append_assoc, append_cancel_left}
 use Rattle.dover_model.specs.declared.events.Event.{Event}
+use Rattle.dover_model.specs.declared.events.Event.TheVariants.{Release}
 use Rattle.dover_model.specs.Common.{JobFacts, Instance, Session, instance_of, AreShort, Begins, text_of, step_numbers}
-use Rattle.dover_model.specs.Common.{Account, account_of_lines, MayFollow, due_by}
+use Rattle.dover_model.specs.Common.{Account, account_of_lines, is_open, MayFollow, due_by}
 use Rattle.dover_model.specs.declared.horizon.Horizon.{Horizon}
-use Rattle.dover_model.specs.declared.horizon.Horizon.TheVariants.{Mark}
+use Rattle.dover_model.specs.declared.horizon.Horizon.TheVariants.{Mark, End}
 use Rattle.dover_model.proofs.settled.Horizons.{follows_on}
 use Rattle.event_feed.specs.Kept as feed
 use Rattle.lane_server.specs.Lane.{Fits, Running, Admitting, Owes, GivesFault, Stands, IsQuiet, Gives, IntakeStands}
-use Rattle.lane_server.specs.Lane.{reach}
+use Rattle.lane_server.specs.Lane.{reach, NamesFault, IsAdmitting, AdmitsBy, IsDeclared}
 use Rattle.lane_server.specs.declared.lane.Lane.{Lane}
 use Rattle.lane_server.specs.declared.lane.Work.{Work}
-use Rattle.lane_server.specs.declared.lane.Work.TheVariants.{Nothing, Give}
+use Rattle.lane_server.specs.declared.lane.Work.TheVariants.{Nothing, Give, Admit}
 use Rattle.event_feed.specs.declared.due_line.DueLine.{DueLine}
+use Rattle.event_feed.specs.declared.due_line.DueLine.TheVariants.{Step}
 use Rattle.lane_server.proofs.Printing.{event_short}
-use Rattle.ready_server.specs.Rostering.{Serves, Rests}
-use Rattle.ready_server.specs.declared.roster_server.RosterServer.{RosterServer}
+use Rattle.lane_server.proofs.Adding.{open_stands, reach_open}
+use Rattle.ready_server.proofs.RollSettled.{no_release}
+use Rattle.ready_server.specs.Serving.{Serves, Rests}
+use Rattle.ready_server.specs.declared.server.ReadyServer.{ReadyServer}
 
 -- what is left begins with the event
 pub first_left : (events left all : List Event) (e : Event) → all ≡ events ++ left
@@ -28,10 +32,10 @@ first_left events left all e due begins =
 pub none_left : (events left all : List Event) → all ≡ events ++ left → events ≡ all → left ≡ []
 none_left events left all due same = append_cancel_left events left [] (sym due ∙ sym same ∙ sym (append-nil events))
 
-module _ (begins : (s : RosterServer) (J : Instance) (to : Horizon) (events : List Event) → Serves s J to events
+module _ (begins : (s : ReadyServer) (J : Instance) (to : Horizon) (events : List Event) → Serves s J to events
     → Begins events (due_by J to)) where
   -- a step to the horizon gives the first line that is left, and its numbers have numerals
-  pub run_gives : (to : Horizon) (v u : RosterServer) (a : Account) (rest : List (List ℕ)) (it : Running to v a rest)
+  pub run_gives : (to : Horizon) (v u : ReadyServer) (a : Account) (rest : List (List ℕ)) (it : Running to v a rest)
       (e : Event) → Serves u (instance_of it.session) to (it.events ++ e ∷ [])
       → (more : List (List ℕ)) × (rest ≡ text_of e ∷ more) × Running to u a more × AreShort (step_numbers e)
   run_gives to v u a rest it e served =
@@ -57,21 +61,21 @@ module _ (begins : (s : RosterServer) (J : Instance) (to : Horizon) (events : Li
       )
 
 -- what a step to the job's release says, at the release as it was read
-pub admit_steps : (job : JobFacts) (v : RosterServer) (a : Account)
+pub admit_steps : (job : JobFacts) (v : ReadyServer) (a : Account)
     (rest : List (List ℕ)) (it : Admitting job v a rest) (t : ℕ) → t ≡ job.release → (P : ℕ → Type 0)
     → (MayFollow it.from (Mark t) → P t) → P job.release
 admit_steps job v a rest it t same P says =
     subst P same (says (subst (λ m. MayFollow it.from (Mark m)) (sym same) it.follows))
 
 -- what is printed up to a horizon is what is due of an account
-pub fits_at : (to : Horizon) (u : RosterServer) (a : Account) (S : Session) → a.session ≡ Some S
+pub fits_at : (to : Horizon) (u : ReadyServer) (a : Account) (S : Session) → a.session ≡ Some S
     → reach a ≡ to → Serves u (instance_of S) to (due_by (instance_of S) to) → Fits a (Some u)
 fits_at to u a S there reached served =
     (S, there, subst (λ h. Serves u (instance_of S) h (due_by (instance_of S) h)) (sym reached) served)
 
-module _ (rested : (s : RosterServer) (J : Instance) (to : Horizon) → Rests s J to → Serves s J to (due_by J to)) where
+module _ (rested : (s : ReadyServer) (J : Instance) (to : Horizon) → Rests s J to → Serves s J to (due_by J to)) where
   -- at the horizon nothing is left
-  pub run_none : (to : Horizon) (v u : RosterServer) (a : Account) (rest : List (List ℕ)) (it : Running to v a rest)
+  pub run_none : (to : Horizon) (v u : ReadyServer) (a : Account) (rest : List (List ℕ)) (it : Running to v a rest)
       → it.events ≡ due_by (instance_of it.session) to → Rests u (instance_of it.session) to
       → (rest ≡ []) × Fits a (Some u)
   run_none to v u a rest it all rest_there = (
@@ -82,14 +86,14 @@ module _ (rested : (s : RosterServer) (J : Instance) (to : Horizon) → Rests s 
 -- ---- of a lane
 
 -- what the lane owes, by its work and its server
-pub lane_owes : (lane : Lane) (w : Work) (v : RosterServer) (a : Account)
+pub lane_owes : (lane : Lane) (w : Work) (v : ReadyServer) (a : Account)
     (rest : List (List ℕ)) → lane.work ≡ w → lane.server ≡ Some v → Owes lane.work lane.server a rest
     → Owes w (Some v) a rest
 lane_owes lane w v a rest is there owes =
     subst (λ o. Owes w o a rest) there (subst (λ x. Owes x lane.server a rest) is owes)
 
 -- the lane with its server taken further
-pub lane_stands : (lane : Lane) (w : Work) (u : RosterServer) (ls rest more : List (List ℕ))
+pub lane_stands : (lane : Lane) (w : Work) (u : ReadyServer) (ls rest more : List (List ℕ))
     → Stands lane ls rest → lane.work ≡ w → Owes w (Some u) (account_of_lines ls) more
     → Stands (record lane { server = Some u }) ls more
 lane_stands lane w u ls rest more it is owes = record {
@@ -102,7 +106,7 @@ lane_stands lane w u ls rest more it is owes = record {
 }
 
 -- the lane with its intake and its server taken further, and other work
-pub lane_turns : (lane : Lane) (i : feed.Kept) (w : Work) (u : RosterServer) (ls rest more : List (List ℕ))
+pub lane_turns : (lane : Lane) (i : feed.Kept) (w : Work) (u : ReadyServer) (ls rest more : List (List ℕ))
     → Stands lane ls rest → feed.has_ended i ≡ feed.has_ended lane.intake
     → IntakeStands w i ls → Owes w (Some u) (account_of_lines ls) more → GivesFault w ls
     → Stands (record lane { intake = i; server = Some u; work = w }) ls more
@@ -116,7 +120,7 @@ lane_turns lane i w u ls rest more it ends intake owes names = record {
 }
 
 -- the lane is at rest
-pub lane_rests : (lane : Lane) (u : RosterServer) (ls rest : List (List ℕ)) → Stands lane ls rest
+pub lane_rests : (lane : Lane) (u : ReadyServer) (ls rest : List (List ℕ)) → Stands lane ls rest
     → feed.StandsFor lane.intake ls → Fits (account_of_lines ls) (Some u)
     → IsQuiet (record lane { server = Some u; work = Nothing }) ls
 lane_rests lane u ls rest it intake fits =
@@ -150,5 +154,56 @@ lane_given lane out ls rest it is =
         names = tt;
       },
       owes.2,
-      subst (λ w. GivesFault w ls) is it.names,
-    )
+      by out (subst (λ w. GivesFault w ls) is it.names),
+    ) where
+      by : (o : DueLine) → GivesFault (Give o) ls → NamesFault o ls
+      by (Step e) names = absurd names
+      by _ names = names
+
+-- ---- a job to admit
+
+-- no step to a mark is a release
+pub never_released : (v u : ReadyServer) (J : Instance) (from : Horizon) (t : ℕ) (events : List Event) (e : Event)
+    → Serves v J from events → MayFollow from (Mark t) → Serves u J (Mark t) (events ++ e ∷ [])
+    → (n : ℕ) (job : JobFacts) → e ≡ Release n job → ⊥
+never_released v u J (Mark m) t events e served may next n job is =
+    no_release v u J m t events n job served (subst (λ x. Serves u J (Mark t) (events ++ x ∷ [])) is next)
+never_released v u J End t events e served may next n job is = absurd may
+
+-- nor is one towards the horizon of a feed that goes on
+pub run_released : (to : Horizon) (v u : ReadyServer) (a : Account) (rest : List (List ℕ)) (it : Running to v a rest)
+    (e : Event) → Serves u (instance_of it.session) to (it.events ++ e ∷ []) → is_open a ≡ true
+    → (n : ℕ) (job : JobFacts) → e ≡ Release n job → ⊥
+run_released (Mark t) v u a rest it e served goes n job is =
+    never_released v u (instance_of it.session) it.from t it.events e it.served it.follows served n job is
+run_released End v u a rest it e served goes n job is =
+    absurd (let clash : Mark a.mark ≡ End = sym (reach_open a (open_stands a goes)) ∙ it.reached in cc)
+
+module _ (is_open : Bool) (old new : Work) where
+  -- behind a step that is no release
+  pub plain_step : (e : Event) → (IsAdmitting new → IsAdmitting old)
+      → (is_open ≡ true → (n : ℕ) (job : JobFacts) → e ≡ Release n job → ⊥) → AdmitsBy is_open old new (Some (Step e))
+  plain_step (Release n job) stays none = λ goes. absurd (none goes n job refl)
+  plain_step _ stays none = stays
+
+  -- behind a step by which the job is admitted
+  pub admitted_step : (e : Event) → IsAdmitting old → (IsAdmitting new → ⊥)
+      → AdmitsBy is_open old new (Some (Step e))
+  admitted_step (Release n job) was none = λ goes. (was, none)
+  admitted_step _ was none = λ is. absurd (none is)
+
+  -- behind the one line that was left
+  pub given_line : (out : DueLine) (ls : List (List ℕ)) → GivesFault (Give out) ls → (IsAdmitting new → ⊥)
+      → AdmitsBy is_open old new (Some out)
+  given_line (Step e) ls names none = absurd names
+  given_line _ ls names none = λ is. absurd (none is)
+
+-- where a job is to be admitted, the session is there
+pub admitting_declared : (lane : Lane) (ls rest : List (List ℕ)) → Stands lane ls rest → IsAdmitting lane.work
+    → IsDeclared (account_of_lines ls)
+admitting_declared lane ls rest it = by lane.work lane.server it.owes where
+  by : (w : Work) (o : Option ReadyServer) → Owes w o (account_of_lines ls) rest → IsAdmitting w
+      → IsDeclared (account_of_lines ls)
+  by (Admit job) None owes is = absurd owes
+  by (Admit job) (Some v) owes is = (_, owes.there)
+  by _ o owes is = absurd is

@@ -15,12 +15,12 @@ use Rattle.lane_server.specs.Lane.{Fits, Owes, done_item}
 use Rattle.lane_server.specs.Spending.{HasPaid}
 use Rattle.lane_server.specs.declared.lane.Work.{Work}
 use Rattle.lane_server.specs.declared.lane.Work.TheVariants.{Nothing, Give, Run, Admit, Finish}
-use Rattle.ready_server.specs.Rostering.{Serves, HasPaid as HasServed}
-use Rattle.ready_server.specs.declared.roster_server.RosterServer.{RosterServer}
+use Rattle.ready_server.specs.Serving.{Serves, HasPaid as HasServed}
+use Rattle.ready_server.specs.declared.server.ReadyServer.{ReadyServer}
 
 -- before the ratio line there is no server, and nothing was paid
 pub none_paid : (a : Account)
-    (server : Option RosterServer) → Fits a server → a.session ≡ None → (start now : ℕ) → HasPaid server start now
+    (server : Option ReadyServer) → Fits a server → a.session ≡ None → (start now : ℕ) → HasPaid server start now
     → now ≤ start
 none_paid a None fits none start now has_paid = has_paid
 none_paid a (Some v) fits none start now has_paid =
@@ -45,17 +45,17 @@ offer_admits S job = by_room (is_full (instance_of S) job.release) where
   by_room true = omega (arith, refused_more S.items (record { at = job.release; line = RefusedJob job Full }))
   by_room false = omega (arith, job_more S.items job)
 
-module _ (few : (s : RosterServer) (J : Instance) (to : Horizon) (events : List Event) (start now : ℕ)
+module _ (few : (s : ReadyServer) (J : Instance) (to : Horizon) (events : List Event) (start now : ℕ)
     → Serves s J to events
     → HasServed s start now → CostsAtMost (length J.jobs) start now) where
   -- a server that fits has the account's jobs
-  fits_few : (a : Account) (v : RosterServer) → Fits a (Some v) → (start now : ℕ) → HasServed v start now
+  fits_few : (a : Account) (v : ReadyServer) → Fits a (Some v) → (start now : ℕ) → HasServed v start now
       → CostsAtMost (admitted_in a) start now
   fits_few a v fits start now has_paid = subst (λ n. CostsAtMost n start now) (sym (ap admitted_by fits.1))
       (few v (instance_of fits.0) _ _ start now fits.2 has_paid)
 
   -- whatever is under way, what was paid is little for the account's jobs
-  pub owes_few_paid : (work : Work) (server : Option RosterServer) (a : Account) (rest : List (List ℕ))
+  pub owes_few_paid : (work : Work) (server : Option ReadyServer) (a : Account) (rest : List (List ℕ))
       → Owes work server a rest → (start now : ℕ) → HasPaid server start now
       → CostsAtMost (admitted_in a) start now
   owes_few_paid work None a rest owes start now none = λ d enough. omega (arith, none)

@@ -24,7 +24,7 @@ use Rattle.lane_server.proofs.Alone.{lane_feed_account}
 use Rattle.lane_server.proofs.Few.{element}
 use Rattle.lane_server.proofs.Inputs.{input_grows}
 use Rattle.lane_server.proofs.Keeping.{get_same, get_other, get_behind}
-use Rattle.ready_server.specs.declared.roster_server.RosterServer.{RosterServer}
+use Rattle.ready_server.specs.declared.server.ReadyServer.{ReadyServer}
 
 -- ---- sums over the lanes
 
@@ -86,7 +86,7 @@ module _ (f g : ℕ → ℕ) (i : ℕ) (same : (j : ℕ) → (j ≡ i → ⊥) �
 -- ---- one server
 
 -- what a server has paid of nothing, it has paid up to now
-paid_to : (server : Option RosterServer) (own now : ℕ) → HasPaid server 0 own → HasPaid server (now - own) now
+paid_to : (server : Option ReadyServer) (own now : ℕ) → HasPaid server 0 own → HasPaid server (now - own) now
 paid_to None own now none = omega (arith, none)
 paid_to (Some v) own now paid = record {
   paid = λ d enough. by_numbers _ (paid.paid d enough);
@@ -96,7 +96,7 @@ paid_to (Some v) own now paid = record {
   by_numbers w most = omega (arith, most)
 
 -- and what it has paid since then, of nothing
-paid_since : (server : Option RosterServer) (start now : ℕ) → HasPaid server start now → HasPaid server 0 (now - start)
+paid_since : (server : Option ReadyServer) (start now : ℕ) → HasPaid server start now → HasPaid server 0 (now - start)
 paid_since None start now none = omega (arith, none)
 paid_since (Some v) start now paid = record {
   paid = λ d enough. by_numbers _ (paid.paid d enough);

@@ -20,7 +20,7 @@ use Rattle.event_feed.specs.declared.faults.FeedFault.{FeedFault}
 use Rattle.event_feed.specs.declared.fed.Fed.{Fed}
 use Rattle.event_feed.specs.declared.fed.Fed.TheVariants.{Over}
 use Rattle.lane_server.specs.Lanes.{lines_added}
-use Rattle.lane_server.specs.Lane.{IsDeclared, Fits, IsOpenAt, Owes, GivesFault, Adds, Stands, IsQuiet, NamesFault}
+use Rattle.lane_server.specs.Lane.{IsDeclared, Fits, IsOpenAt, Owes, GivesFault, Adds, Stands, IsQuiet}
 use Rattle.lane_server.specs.Lane.{IntakeStands}
 use Rattle.lane_server.specs.declared.lane.Lane.{Lane}
 use Rattle.lane_server.specs.declared.lane.Work.TheVariants.{Nothing, Give, Run, Admit, Finish}
@@ -32,11 +32,11 @@ use Rattle.lane_server.proofs.Adding.{tick_rest, tick_due, tick_owes, end_stands
 use Rattle.lane_server.proofs.Adding.{mark_short, refused_due, refused_fits, new_fault_due, new_fault_fits, opens_by}
 use Rattle.lane_server.proofs.Adding.{open_stands, lines_kept, added_is, account_over}
 use Rattle.lane_server.proofs.Finishing.{done_rest, done_due, done_at, done_owes}
-use Rattle.ready_server.specs.Rostering.{Serves, HasPlaceUnlessFull}
-use Rattle.ready_server.specs.declared.roster_server.RosterServer.{RosterServer}
+use Rattle.ready_server.specs.Serving.{Serves, HasPlaceUnlessFull}
+use Rattle.ready_server.specs.declared.server.ReadyServer.{ReadyServer}
 
 -- the ratio line
-pub declare_adds : (lane : Lane) (k : Fraction) (version : Version) (v : RosterServer) (a b : Account)
+pub declare_adds : (lane : Lane) (k : Fraction) (version : Version) (v : ReadyServer) (a b : Account)
     → IsOpenAt lane a → DeclaresRatio k version (counted a) b → Serves v (no_jobs version k) (Mark 0) []
     → Adds (record lane { server = Some v; work = Give (Header version k) }) a b
 declare_adds lane k version v a b at it new = record {
@@ -49,7 +49,7 @@ declare_adds lane k version v a b at it new = record {
 }
 
 -- a job
-pub arrive_adds : (lane : Lane) (n : ℕ) (job : JobFacts) (v u : RosterServer) (t : ℕ) (a b : Account)
+pub arrive_adds : (lane : Lane) (n : ℕ) (job : JobFacts) (v u : ReadyServer) (t : ℕ) (a b : Account)
     → IsOpenAt lane a → AddsJob n job (counted a) b → lane.server ≡ Some v
     → ((J : Instance) (to : Horizon) (events : List Event) → Serves v J to events → Serves u J to events)
     → HasPlaceUnlessFull u → t ≡ job.release
@@ -68,7 +68,7 @@ arrive_adds lane n job v u t a b at it there still room same =
 pub tick_adds : (lane : Lane) (t : ℕ) (a b : Account) → IsOpenAt lane a → MovesMark t (counted a) b
     → Adds (record lane { mark = t; work = Run (Mark t) }) a b
 tick_adds lane t a b at it = by_server lane.server at.fits where
-  by_server : (o : Option RosterServer) → Fits a o
+  by_server : (o : Option ReadyServer) → Fits a o
       → Adds (record lane { server = o; mark = t; work = Run (Mark t) }) a b
   by_server None fits = absurd (let e : None ≡ Some it.session = sym fits ∙ it.before_is in cc)
   by_server (Some v) fits = record {
@@ -84,7 +84,7 @@ tick_adds lane t a b at it = by_server lane.server at.fits where
 pub over_adds : (lane : Lane) (a b : Account) → IsOpenAt lane a → EndsFeed (counted a) b
     → Adds (record lane { is_open = false; work = Run End }) a b
 over_adds lane a b at it = by_server lane.server at.fits where
-  by_server : (o : Option RosterServer) → Fits a o
+  by_server : (o : Option ReadyServer) → Fits a o
       → Adds (record lane { server = o; is_open = false; work = Run End }) a b
   by_server None fits = absurd (let e : None ≡ Some it.session = sym fits ∙ it.before_is in cc)
   by_server (Some v) fits = record {
@@ -101,7 +101,7 @@ module _ (lane : Lane) (a b : Account) (S : Session) (line : RefusedLine) (at : 
     (there : a.session ≡ Some S) (open_still : b.standing ≡ Open) (same_mark : b.mark ≡ a.mark)
     (behind : b.session ≡ Some (with_item S (RefusedItem (record { at = a.mark; line = line })))) where
   refused_adds : (out : DueLine) → HasNumerals out → refused_text (record { at = a.mark; line = line }) ≡ out_text out
-      → ((ls : List (List ℕ)) → NamesFault out ls)
+      → ((ls : List (List ℕ)) → GivesFault (Give out) ls)
       → Adds (record lane { work = Give out }) a b
   refused_adds out numerals text names = record {
     opened = at.opened ∙ sym (opens_by b Open open_still);
@@ -153,7 +153,7 @@ module _ (lane : Lane) (t n : ℕ) (a b : Account) (at : IsOpenAt lane a) (it : 
   -- and otherwise it is left to finish at its tick
   pub done_adds : a.mark ≤ t → Adds (record lane { mark = t; work = Finish t n }) a b
   done_adds later = by_server lane.server at.fits where
-    by_server : (o : Option RosterServer) → Fits a o
+    by_server : (o : Option ReadyServer) → Fits a o
         → Adds (record lane { server = o; mark = t; work = Finish t n }) a b
     by_server None fits = absurd (let e : None ≡ Some it.session = sym fits ∙ it.before_is in cc)
     by_server (Some v) fits = record {

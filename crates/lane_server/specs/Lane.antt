@@ -1,8 +1,9 @@
 -- What a lane keeps of its feed, and what it still has to give.
-use Rattle.std.specs.Prelude.{◌≡◌, ◌⊎◌, ℕ, List, [], ◌∷◌, ◌++◌, length, map, drop, true, false, if◌then◌else◌}
+use Rattle.std.specs.Prelude.{◌≡◌, ◌⊎◌, ℕ, List, [], ◌∷◌, ◌++◌, length, map, drop, Bool, true, false, if◌then◌else◌}
 use Rattle.std.specs.Prelude.{Option, Some, None}
 use Rattle.std.specs.Option.{option_map_or}
 use Rattle.dover_model.specs.declared.events.Event.{Event}
+use Rattle.dover_model.specs.declared.events.Event.TheVariants.{Release}
 use Rattle.dover_model.specs.declared.events.Refusal.TheVariants.{Full}
 use Rattle.dover_model.specs.Common.{JobFacts, job_numbers, IsValid, with_jobs, with_finishes, Item, FinishItem}
 use Rattle.dover_model.specs.Common.{is_full, RefusedJob, RefusedDone, Session, instance_of, with_item, finish_at}
@@ -20,12 +21,12 @@ use Rattle.event_feed.specs.declared.fed.Fed.{Fed}
 use Rattle.event_feed.specs.declared.fed.Fed.TheVariants as fed
 use Rattle.event_feed.specs.Faults.{IsFirstFault}
 use Rattle.event_feed.specs.declared.due_line.DueLine.{DueLine}
-use Rattle.event_feed.specs.declared.due_line.DueLine.TheVariants.{Refused}
+use Rattle.event_feed.specs.declared.due_line.DueLine.TheVariants.{Step, Refused}
 use Rattle.lane_server.specs.declared.lane.Lane.{Lane}
 use Rattle.lane_server.specs.declared.lane.Work.{Work}
 use Rattle.lane_server.specs.declared.lane.Work.TheVariants.{Nothing, Give, Run, Admit, Finish}
-use Rattle.ready_server.specs.Rostering.{Serves, HasPlaceUnlessFull}
-use Rattle.ready_server.specs.declared.roster_server.RosterServer.{RosterServer}
+use Rattle.ready_server.specs.Serving.{Serves, HasPlaceUnlessFull}
+use Rattle.ready_server.specs.declared.server.ReadyServer.{ReadyServer}
 
 -- ---- how a feed stands
 
@@ -57,7 +58,7 @@ abbrev pub reach : Account → Horizon
 reach a = if is_ended a then End else Mark a.mark
 
 -- the server has printed all that is due of the account's session, or there is neither
-abbrev pub Fits : Account → Option RosterServer → Type 0
+abbrev pub Fits : Account → Option ReadyServer → Type 0
 Fits a None = a.session ≡ None
 Fits a (Some server) = (S : Session) × (a.session ≡ Some S)
     × Serves server (instance_of S) (reach a) (due_by (instance_of S) (reach a))
@@ -65,7 +66,7 @@ Fits a (Some server) = (S : Session) × (a.session ≡ Some S)
 -- ---- what is still to give
 
 -- of what is due of the session up to the horizon these lines are left
-pub record Running (to : Horizon) (server : RosterServer) (a : Account)
+pub record Running (to : Horizon) (server : ReadyServer) (a : Account)
     (rest : List (List ℕ)) : Type 0 where
   pub session : Session
   pub there : a.session ≡ Some session
@@ -89,7 +90,7 @@ job_lines S job = if is_full (instance_of S) job.release
 
 -- The server serves the session without its last item, the job or its refusal, and has room for the job, if there may
 -- be; and these lines are left: what is settled at the job's release without it, and what it adds.
-pub record Admitting (job : JobFacts) (server : RosterServer) (a : Account)
+pub record Admitting (job : JobFacts) (server : ReadyServer) (a : Account)
     (rest : List (List ℕ)) : Type 0 where
   pub session : Session
   pub there : a.session ≡ Some (with_item session (offered_item session job))
@@ -121,7 +122,7 @@ done_lines S at number = elim (finish_at (instance_of S) at number) [
 
 -- The server serves the session without its last item, the done line, and these lines are left: what is settled at the
 -- line's tick without it, and what it adds.
-pub record Finishing (at number : ℕ) (server : RosterServer) (a : Account)
+pub record Finishing (at number : ℕ) (server : ReadyServer) (a : Account)
     (rest : List (List ℕ)) : Type 0 where
   pub session : Session
   pub there : a.session ≡ Some (with_item session (done_item session at number))
@@ -137,7 +138,7 @@ pub record Finishing (at number : ℕ) (server : RosterServer) (a : Account)
   pub texts : rest ≡ map text_of left ++ done_lines session at number
 
 -- what the work under way still gives
-abbrev pub Owes : Work → Option RosterServer → Account → List (List ℕ) → Type 0
+abbrev pub Owes : Work → Option ReadyServer → Account → List (List ℕ) → Type 0
 Owes Nothing server a rest = (rest ≡ []) × Fits a server
 Owes (Give out) server a rest = (rest ≡ out_text out ∷ []) × Fits a server × HasNumerals out
 Owes (Run to) None a rest = ⊥
@@ -147,8 +148,9 @@ Owes (Admit job) (Some server) a rest = Admitting job server a rest
 Owes (Finish at number) None a rest = ⊥
 Owes (Finish at number) (Some server) a rest = Finishing at number server a rest
 
--- a line that refuses the feed, and is left to give, names its fault
+-- a line that is left to give is no step, and where it refuses the feed, it names its fault
 abbrev pub GivesFault : Work → List (List ℕ) → Type 0
+GivesFault (Give (Step e)) ls = ⊥
 GivesFault (Give out) ls = NamesFault out ls
 GivesFault _ ls = Unit {0}
 
@@ -165,6 +167,18 @@ IntakeStands _ intake ls = feed.StandsFor intake ls
 abbrev pub TurnsTo : Fed → Work → Type 0
 TurnsTo (fed.Job number job) work = work ≡ Admit job
 TurnsTo _ work = (job : JobFacts) → work ≡ Admit job → ⊥
+
+-- a job is still to be admitted
+abbrev pub IsAdmitting : Work → Type 0
+IsAdmitting (Admit job) = Unit {0}
+IsAdmitting _ = ⊥
+
+-- While the feed goes on, a release is given only where a job was to be admitted, and none is any more. Behind any other
+-- answer one is only where one was.
+abbrev pub AdmitsBy : (is_open : Bool) → (old new : Work) → Option DueLine → Type 0
+AdmitsBy is_open old new (Some (Step (Release n job))) =
+    is_open ≡ true → IsAdmitting old × (IsAdmitting new → ⊥)
+AdmitsBy is_open old new _ = IsAdmitting new → IsAdmitting old
 
 -- The lane was handed these lines, and these are left to give.
 pub record Stands (lane : Lane) (ls rest : List (List ℕ))

@@ -7,4 +7,3 @@ pub mod Shorts
 pub mod Alone
 pub mod LaneInput
 pub mod Spending
-pub mod Rosters

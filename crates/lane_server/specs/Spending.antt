@@ -5,11 +5,11 @@ use Rattle.dover_model.specs.Spending.{CostsAtMost}
 use Rattle.event_feed.specs.Answers.{admitted_in}
 use Rattle.lane_server.specs.Lanes.{lane_count, Handed, lane_account}
 use Rattle.lane_server.specs.declared.lane.Lane.{Lane}
-use Rattle.ready_server.specs.Rostering.{HasPaid as HasServed}
-use Rattle.ready_server.specs.declared.roster_server.RosterServer.{RosterServer}
+use Rattle.ready_server.specs.Serving.{HasPaid as HasServed}
+use Rattle.ready_server.specs.declared.server.ReadyServer.{ReadyServer}
 
 -- The server has made no more comparisons than its jobs have called for; where there is none, none were made.
-abbrev pub HasPaid : Option RosterServer → (start now : ℕ) → Type 0
+abbrev pub HasPaid : Option ReadyServer → (start now : ℕ) → Type 0
 HasPaid None start now = now ≤ start
 HasPaid (Some server) start now = HasServed server start now
 

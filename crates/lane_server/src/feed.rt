@@ -1,10 +1,9 @@
 //! One feed, byte by byte: its intake and its server.
-ghost use Rattle.std.specs.Prelude.{◌≡◌, ◌<◌, ◌∷◌, ℕ, List, [], Bool, true, length, OnOk};
+ghost use Rattle.std.specs.Prelude.{◌≡◌, ◌<◌, ◌∷◌, ℕ, List, [], true, length, OnOk};
 ghost use Rattle.dover_model.specs.Common.{account, is_open, lines_of, rest_of};
 ghost use Rattle.line_text.specs.Cutting.{IsWholeLine, begun_line};
-ghost use Rattle.lane_server.specs.Lane.{IsQuiet};
+ghost use Rattle.lane_server.specs.Lane.{IsQuiet, AdmitsBy};
 ghost use Rattle.lane_server.specs.Feeding.{FeedStands, FeedRests, FeedGives, Hands, Takes};
-ghost use Rattle.lane_server.specs.Rosters.{KeepsRoster};
 ghost use Rattle.lane_server.specs.Spending.{HasPaid};
 
 use crate::lane::Lane;
@@ -38,16 +37,15 @@ pub struct Feed {
 }
 
 impl Feed {
-    /// No byte came yet. Its server is to keep a roster of its jobs where one is asked for. Takes no memory.
-    pub fn new(alloc: Global, listed: bool) -> Feed
+    /// No byte came yet. Takes no memory.
+    pub fn new(alloc: Global) -> Feed
         ensures rests { FeedRests result [] }
         ensures paid { (start : ℕ) → HasPaid result.lane.server start start }
-        ensures roster { KeepsRoster result.lane listed }
     {
         Feed {
             alloc,
             lines: Lines::new(),
-            lane: Lane::new(listed),
+            lane: Lane::new(),
         }
     }
 
@@ -76,7 +74,6 @@ impl Feed {
         ensures paid { (x : List ℕ) (start now : ℕ) → FeedRests self.old x →
             HasPaid self.old.lane.server start now →
             OnOk result (HasPaid self.new.lane.server start now) }
-        ensures roster { (listed : Bool) → KeepsRoster self.old.lane listed → KeepsRoster self.new.lane listed }
     {
         match self.lines.push(byte) {
             ByteEffect::More => Ok(()),
@@ -95,7 +92,6 @@ impl Feed {
         ensures paid { (x : List ℕ) (start now : ℕ) → FeedRests self.old x →
             HasPaid self.old.lane.server start now →
             OnOk result (HasPaid self.new.lane.server start now) }
-        ensures roster { (listed : Bool) → KeepsRoster self.old.lane listed → KeepsRoster self.new.lane listed }
     {
         if bytes.len() > 1 {
             return self.lane.line(self.alloc, self.lines.pass(bytes));
@@ -118,7 +114,6 @@ impl Feed {
         ensures paid { (x : List ℕ) (start now : ℕ) → FeedRests self.old x →
             HasPaid self.old.lane.server start now →
             OnOk result (HasPaid self.new.lane.server start now) }
-        ensures roster { (listed : Bool) → KeepsRoster self.old.lane listed → KeepsRoster self.new.lane listed }
     {
         let count = self.lines.front(piece);
         match self.take_front(&piece[..count]) {
@@ -135,7 +130,7 @@ impl Feed {
             FeedGives result self.new x left }
         ensures paid { (start : ℕ) → HasPaid self.old.lane.server start comparisons.old →
             HasPaid self.new.lane.server start comparisons.new }
-        ensures roster { (listed : Bool) → KeepsRoster self.old.lane listed → KeepsRoster self.new.lane listed }
+        ensures admits { AdmitsBy self.old.lane.is_open self.old.lane.work self.new.lane.work result }
     {
         self.lane.next_out(comparisons)
     }

@@ -1,5 +1,5 @@
 //! One lane: a feed, the server that it feeds, and the lines that are due and not yet given.
-ghost use Rattle.std.specs.Prelude.{◌≡◌, ◌↔◌, ◌≤◌, ◌<◌, ℕ, List, [], ◌∷◌, ◌++◌, Bool, length, Some, Err, true, IsSome};
+ghost use Rattle.std.specs.Prelude.{◌≡◌, ◌↔◌, ◌≤◌, ◌<◌, ℕ, List, [], ◌∷◌, ◌++◌, Bool, length, Some, Err, true, IsSome, IsTrue};
 ghost use Rattle.std.specs.Prelude.{OnOk, OnErr, option_map};
 ghost use Rattle.dover_model.specs.Common.{Account, account_of_lines, is_open, admitted_jobs, CostsAtMost, JobFacts};
 ghost use Rattle.event_feed.specs.Answers.{DeclaresRatio, AddsJob, AddsDone, IsFed, EndAnswers, counted, admitted_in};
@@ -9,9 +9,8 @@ ghost use Rattle.event_feed.specs.declared.due_line.DueLine.TheVariants.{Header,
 ghost use Rattle.event_feed.specs.declared.faults.FeedFault.{FeedFault};
 ghost use Rattle.lane_server.specs.Lanes.{lines_added, feed_short, is_fine};
 ghost use Rattle.lane_server.specs.Lane.{IsDeclared, AsksForMemory, Stands, IsQuiet, Gives, IsOpenAt, Adds, TurnsTo};
-ghost use Rattle.lane_server.specs.Rosters.{KeepsRoster};
+ghost use Rattle.lane_server.specs.Lane.{IsAdmitting, AdmitsBy};
 ghost use Rattle.lane_server.specs.Spending.{HasPaid};
-ghost use Rattle.ready_server.specs.Rostering.{has_roster};
 ghost use Rattle.lane_server.specs.Shorts.{short_texts};
 ghost use Rattle.lane_server.specs.declared.lane.Work.TheVariants.{Nothing, Give, Run, Admit, Finish};
 
@@ -19,7 +18,7 @@ use comparison_count::Comparisons;
 use dover_model::{Horizon, Job, Memory, Ratio, Refusal, Version};
 use event_feed::{DueLine, Fed, FeedFault, Intake};
 use line_text::Spelled;
-use ready_server::RosterServer;
+use ready_server::ReadyServer;
 use std::alloc::Global;
 use std::sync::ledger::Ledger;
 
@@ -50,11 +49,10 @@ pub(crate) enum Work {
 #[derive(Drop)]
 pub struct Lane {
     intake: Intake,
-    server: Option<RosterServer>,
+    server: Option<ReadyServer>,
     mark: u64,
     is_open: bool,
     work: Work,
-    listed: bool,
 }
 
 impl Lane {
@@ -66,14 +64,13 @@ impl Lane {
             Stands lane ls rest → HasPaid lane.server start now
             → CostsAtMost (admitted_in (account_of_lines ls)) start now }
     {
-        RosterServer::laws();
+        ReadyServer::laws();
     }
 
-    /// No line came yet. Its server is to keep a roster of its jobs where one is asked for.
-    pub fn new(listed: bool) -> Lane
+    /// No line came yet.
+    pub fn new() -> Lane
         ensures quiet { IsQuiet result [] }
         ensures paid { (start : ℕ) → HasPaid result.server start start }
-        ensures roster { KeepsRoster result listed }
     {
         Lane {
             intake: Intake::new(),
@@ -81,29 +78,25 @@ impl Lane {
             mark: 0,
             is_open: true,
             work: Work::Nothing,
-            listed,
         }
     }
 
     /// Goes on from where a feed was paused, at this mark, with the intake and the server that stood there.
-    pub fn resumed(intake: Intake, server: RosterServer, mark: u64) -> Lane
+    pub fn resumed(intake: Intake, server: ReadyServer, mark: u64) -> Lane
         ensures { result ≡ record {
           intake = intake;
           server = Some server;
           mark = mark;
           is_open = true;
           work = Nothing;
-          listed = has_roster server;
         } }
     {
-        let listed = server.has_roster();
         Lane {
             intake,
             server: Some(server),
             mark,
             is_open: true,
             work: Work::Nothing,
-            listed,
         }
     }
 
@@ -113,11 +106,10 @@ impl Lane {
         ensures paid { (a b : Account) (start now : ℕ) → IsOpenAt self.old a
             → DeclaresRatio k version (counted a) b → HasPaid self.old.server start now
             → OnOk result (HasPaid self.new.server start now) }
-        ensures roster { (listed : Bool) → KeepsRoster self.old listed → KeepsRoster self.new listed }
         ensures intake { self.new.intake ≡ self.old.intake }
         ensures work { OnOk result (self.new.work ≡ Give (Header version k)) }
     {
-        let server = RosterServer::new(alloc, version, k, self.listed)?;
+        let server = ReadyServer::new(alloc, version, k)?;
         drop(self.server.replace(server));
         self.work = Work::Give(DueLine::Header(version, k));
         Ok(())
@@ -130,7 +122,6 @@ impl Lane {
             → OnOk result (Adds self.new a b) }
         ensures paid { (start now : ℕ) → HasPaid self.old.server start now
             → OnOk result (HasPaid self.new.server start now) }
-        ensures roster { (listed : Bool) → KeepsRoster self.old listed → KeepsRoster self.new listed }
         ensures intake { self.new.intake ≡ self.old.intake }
         ensures work { OnOk result (self.new.work ≡ Admit job) }
     {
@@ -146,7 +137,6 @@ impl Lane {
     fn finish_at(&mut self, at: u64, number: u64)
         ensures adds { (a b : Account) → IsOpenAt self.old a → AddsDone at number (counted a) b → Adds self.new a b }
         ensures server { self.new.server ≡ self.old.server }
-        ensures listed { self.new.listed ≡ self.old.listed }
         ensures intake { self.new.intake ≡ self.old.intake }
         ensures work { (job : JobFacts) → self.new.work ≡ Admit job → ⊥ }
     {
@@ -168,7 +158,6 @@ impl Lane {
             → OnOk result (Adds self.new a b) }
         ensures paid { (a b : Account) (start now : ℕ) → IsOpenAt self.old a → IsFed (counted a) b fed
             → HasPaid self.old.server start now → OnOk result (HasPaid self.new.server start now) }
-        ensures roster { (listed : Bool) → KeepsRoster self.old listed → KeepsRoster self.new listed }
         ensures lacks { (a b : Account) → IsFed (counted a) b fed → OnErr result (IsDeclared b) }
         ensures asks { (a b : Account) → IsFed (counted a) b fed → OnErr result (AsksForMemory a b) }
         ensures intake { self.new.intake ≡ self.old.intake }
@@ -225,7 +214,6 @@ impl Lane {
             → OnOk result (Stands self.new (ls ++ line.now ∷ []) (lines_added ls line.now)) }
         ensures paid { (ls : List (List ℕ)) (start now : ℕ) → IsQuiet self.old ls
             → HasPaid self.old.server start now → OnOk result (HasPaid self.new.server start now) }
-        ensures roster { (listed : Bool) → KeepsRoster self.old listed → KeepsRoster self.new listed }
         ensures lacks { (ls : List (List ℕ)) → IsQuiet self.old ls
             → OnErr result (IsDeclared (account_of_lines (ls ++ line.now ∷ []))) }
         ensures asks { (ls : List (List ℕ)) → IsQuiet self.old ls
@@ -255,9 +243,9 @@ impl Lane {
             → Gives result self.new ls rest }
         ensures paid { (start : ℕ) → HasPaid self.old.server start comparisons.old
             → HasPaid self.new.server start comparisons.new }
-        ensures roster { (listed : Bool) → KeepsRoster self.old listed → KeepsRoster self.new listed }
+        ensures admits { AdmitsBy self.old.is_open self.old.work self.new.work result }
     {
-        RosterServer::laws();
+        ReadyServer::laws();
         let Some(server) = &mut self.server else {
             unreachable!();
         };
@@ -295,9 +283,9 @@ impl Lane {
             → Gives result self.new ls rest }
         ensures paid { (start : ℕ) → HasPaid self.old.server start comparisons.old
             → HasPaid self.new.server start comparisons.new }
-        ensures roster { (listed : Bool) → KeepsRoster self.old listed → KeepsRoster self.new listed }
+        ensures admits { AdmitsBy self.old.is_open self.old.work self.new.work result }
     {
-        RosterServer::laws();
+        ReadyServer::laws();
         let Some(server) = &mut self.server else {
             unreachable!();
         };
@@ -327,9 +315,9 @@ impl Lane {
             → Gives result self.new ls rest }
         ensures paid { (start : ℕ) → HasPaid self.old.server start comparisons.old
             → HasPaid self.new.server start comparisons.new }
-        ensures roster { (listed : Bool) → KeepsRoster self.old listed → KeepsRoster self.new listed }
+        ensures admits { AdmitsBy self.old.is_open self.old.work self.new.work result }
     {
-        RosterServer::laws();
+        ReadyServer::laws();
         let Some(server) = &mut self.server else {
             unreachable!();
         };
@@ -360,7 +348,7 @@ impl Lane {
             → Gives result self.new ls rest }
         ensures paid { (start : ℕ) → HasPaid self.old.server start comparisons.old
             → HasPaid self.new.server start comparisons.new }
-        ensures roster { (listed : Bool) → KeepsRoster self.old listed → KeepsRoster self.new listed }
+        ensures admits { AdmitsBy self.old.is_open self.old.work self.new.work result }
     {
         match &self.work {
             Work::Nothing => None,
@@ -448,6 +436,13 @@ impl Lane {
         self.intake.spelled()
     }
 
+    /// Whether a job is still to be admitted.
+    pub fn is_admitting(&self) -> bool
+        ensures { IsTrue result ↔ IsAdmitting self.now.work }
+    {
+        matches!(self.work, Work::Admit(_))
+    }
+
     /// The mark: the tick up to which all is settled.
     pub fn mark(&self) -> u64
         ensures { result ≡ self.now.mark }
@@ -456,7 +451,7 @@ impl Lane {
     }
 
     /// The server, from the ratio line on.
-    pub fn into_server(self) -> Option<RosterServer>
+    pub fn into_server(self) -> Option<ReadyServer>
         ensures { result ≡ self.server }
     {
         self.server

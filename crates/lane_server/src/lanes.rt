@@ -70,7 +70,7 @@ fn new_lanes(alloc: Global) -> Result<Vec<Lane>, Memory>
 {
     let mut lanes = Vec::with_capacity(alloc, usize::from(LANES))?;
     for _ in 0..LANES {
-        lanes.push(Lane::new(false))?;
+        lanes.push(Lane::new())?;
     }
     Ok(lanes)
 }

@@ -4,13 +4,12 @@ use Rattle.dover_model.specs.declared.events.Event.{Event}
 use Rattle.dover_model.specs.declared.horizon.Horizon.{Horizon}
 use Rattle.dover_model.specs.declared.horizon.Horizon.TheVariants.{Mark, End}
 use Rattle.dover_model.specs.Common.{Finish, AreDueAlike, Instance, finishing, State, state_at, printed, printed_of}
-use Rattle.dover_model.specs.Common.{waits_for_mark, last_of, due_by, HasPrinted, HaveTheSame}
+use Rattle.dover_model.specs.Common.{waits_for_mark, last_of, due_by, settled, HasPrinted, HaveTheSame}
 use Rattle.dover_model.proofs.finishes.FinishOrders.{same_alike, same_open, settled_alike, run_alike, has_printed_alike}
 use Rattle.dover_model.proofs.finishes.FinishOrders.{whole_alike}
 use Rattle.dover_model.proofs.finishes.Meeting.{finishing_valid}
 use Rattle.ready_jobs.specs.Course.{Course, Follows}
-use Rattle.ready_server.specs.Roster.{Kept, IsRollOf}
-use Rattle.ready_server.specs.Rostering.{HasRead}
+use Rattle.ready_server.specs.Roster.{Kept, IsRollOf, roll_of}
 use Rattle.ready_server.specs.Serving.{HasGiven, HasGivenAll, IsThrough, IsLastOf, Serves, Rests}
 use Rattle.ready_server.specs.declared.server.ReadyServer.{ReadyServer}
 
@@ -103,7 +102,5 @@ module _ (J : Instance) (fs gs : List Finish) (same : HaveTheSame fs gs) where
   }
 
   -- a roster was kept from the same steps
-  pub read_same : (to : Horizon) (roster : Option Kept) → HasRead to roster (due_by F to)
-      → HasRead to roster (due_by G to)
-  read_same (Mark t) roster it = subst (λ es. IsRollOf es roster) (due_same (Mark t)) it
-  read_same End roster it = it
+  pub read_same : (t : ℕ) (k : Kept) → IsRollOf (settled F t) k → IsRollOf (settled G t) k
+  read_same t k it = it ∙ ap roll_of (due_same (Mark t))

@@ -1,5 +1,5 @@
 -- The jobs of a run by number, kept from its printed steps alone.
-use Rattle.std.specs.Prelude.{◌≡◌, ◌<◌, ◌^◌, length, IfSome, ℕ, suc, ◌-◌, List, [], ◌∷◌, ◌++◌, set, Bool, false, not}
+use Rattle.std.specs.Prelude.{◌≡◌, ◌<◌, length, ℕ, suc, ◌-◌, List, [], ◌∷◌, ◌++◌, set, Bool, false, not}
 use Rattle.std.specs.Prelude.{◌&&◌, ◌==◌, if◌then◌else◌, Option, Some, None, slice_get, fold, option_and_then}
 use Rattle.std.specs.Prelude.{option_map}
 use Rattle.dover_model.specs.declared.events.Event.{Event}
@@ -100,20 +100,12 @@ with_event p (End value) = p
 abbrev pub roll_of : List Event → Roll
 roll_of events = fold with_event empty_roll events
 
--- ---- where a roster may be kept
-
--- a kept roll after a printed step
-abbrev pub with_step : Event → Kept → Kept
-with_step e k = record { roll = with_event k.roll e; room = k.room }
-
--- there is room for one job more
-abbrev pub HasLine : Option Kept → Type 0
-HasLine roster = IfSome roster (λ k. length k.roll.jobs < k.room)
-
--- there were few takes
-abbrev pub HasFewTakes : Option Kept → Type 0
-HasFewTakes roster = IfSome roster (λ k. k.roll.takes < 2 ^ 64 - 1)
+-- ---- a roster
 
 -- it was kept from these printed steps
-abbrev pub IsRollOf : List Event → Option Kept → Type 0
-IsRollOf events roster = IfSome roster (λ k. k.roll ≡ roll_of events)
+abbrev pub IsRollOf : List Event → Kept → Type 0
+IsRollOf events k = k.roll ≡ roll_of events
+
+-- there is room for one job more
+abbrev pub HasLine : Kept → Type 0
+HasLine k = length k.roll.jobs < k.room

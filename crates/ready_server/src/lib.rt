@@ -2,14 +2,12 @@
 #![tactic(auto)]
 
 pub mod roster;
-pub mod roster_server;
 mod running;
 pub mod server;
 mod source;
 mod watcher;
 
 pub use roster::Roster;
-pub use roster_server::RosterServer;
 pub use running::{finish_job, run_list, serve_jobs, show_to};
 pub use server::ReadyServer;
 pub use source::JobSource;

@@ -21,8 +21,9 @@ use Rattle.dover_model.proofs.steps.Kept.{Moved, move_of}
 use Rattle.dover_model.proofs.lists.Members.{map_member, member_front, member_behind, member_either}
 use Rattle.dover_model.proofs.rest.Resting.{settled_path, path_state}
 use Rattle.dover_model.proofs.settled.Settling.{settled_is_run}
+use Rattle.ready_server.specs.Roster.{Kept}
 use Rattle.ready_server.specs.Rostering.{Rests}
-use Rattle.ready_server.specs.declared.roster_server.RosterServer.{RosterServer}
+use Rattle.ready_server.specs.declared.server.ReadyServer.{ReadyServer}
 use Rattle.ready_server.proofs.RollRuns.{numbered_task}
 use Rattle.ready_server.proofs.SameFinishes.{rests_same, read_same}
 use Rattle.snapshot.specs.Snapshot.{Head}
@@ -126,8 +127,8 @@ part own (g ∷ fs) J mark each = by (each g (inl refl)) (part own fs J mark (λ
 
 -- ---- the run that was taken to a mark
 
-module _ (v : RosterServer) (h : Head) (tasks : List Task) (items : List Item) (mark : ℕ)
-    (it : IsServed v h tasks items mark) where
+module _ (s : ReadyServer) (k : Kept) (h : Head) (tasks : List Task) (items : List Item) (mark : ℕ)
+    (it : IsServed s k h tasks items mark) where
   abbrev J : Instance
   J = instance_of (session_with h.rules items)
 
@@ -211,10 +212,10 @@ module _ (v : RosterServer) (h : Head) (tasks : List Task) (items : List Item) (
       by f m (inr less) = absurd (none_left f m less)
 
     -- the server rests in the run of all that is stored
-    pub rests_stored : Rests v (stored h tasks) (Mark mark)
-    rests_stored = subst (λ K. Rests v K (Mark mark)) (sym stored_as) (record {
-      rests = rests_same J own early finishes_same v.server (Mark mark) it.rests.rests;
-      read = read_same J own early finishes_same (Mark mark) v.roster it.rests.read;
+    pub rests_stored : Rests s k (stored h tasks) mark
+    rests_stored = subst (λ K. Rests s k K mark) (sym stored_as) (record {
+      rests = rests_same J own early finishes_same s (Mark mark) it.rests.rests;
+      read = read_same J own early finishes_same mark k it.rests.read;
     })
 
     -- which hands in the items

@@ -27,8 +27,7 @@ use Rattle.snapshot.specs.Reading.{Refused, declared_jobs, early_in, stored, sto
 use Rattle.snapshot.specs.Reading.{has_lines_for, has_reached_mark, is_settled, reading_of}
 use Rattle.snapshot.specs.Stored.{HasRead, jobs_session}
 use Rattle.snapshot.specs.Forms.{head_in}
-use Rattle.ready_server.specs.Roster.{Roll, job_at, Kept, IsRollOf}
-use Rattle.ready_server.specs.Rostering.{has_roster}
+use Rattle.ready_server.specs.Roster.{Roll, job_at}
 use Rattle.snapshot.specs.Kept.{CanPause, Holds, HasRun, HasRunTowards, IsServed, IsWhole, Resumes, AreAt, stance_of}
 use Rattle.snapshot.specs.Kept.{handed_account, handed_lines, feed_lines, paused_account}
 use Rattle.snapshot.specs.declared.resuming.Resuming.{Resuming}
@@ -111,14 +110,14 @@ module _ (h : Head) (tasks : List Task) (ls : List (List ℕ)) (read : HasRead h
     other_refused n is other =
         refused_here h tasks ls read r it (ls ++ line ∷ []) n is (no_last h tasks ls read line all_read other)
 
-    module _ (n : Resuming) (run : HasRun n h tasks r.head.mark) (k : Kept) (kept_in : n.server.roster ≡ Some k) where
+    module _ (n : Resuming) (run : HasRun n h tasks r.head.mark) where
       -- it was taken to the mark
-      served : IsServed n.server h tasks run.items h.mark
-      served = subst (IsServed n.server h tasks run.items) mark_is run.served
+      served : IsServed n.server n.roster h tasks run.items h.mark
+      served = subst (IsServed n.server n.roster h tasks run.items) mark_is run.served
 
       -- the jobs that were reached
       abbrev pub reached_tasks : List Task
-      reached_tasks = map (job_at k.roll r.head.mark) k.roll.jobs
+      reached_tasks = map (job_at n.roster.roll r.head.mark) n.roster.roll.jobs
 
       abbrev J : Instance
       J = instance_of (session_with h.rules run.items)
@@ -127,22 +126,21 @@ module _ (h : Head) (tasks : List Task) (ls : List (List ℕ)) (read : HasRead h
       valid = served.rests.rests.follows.valid
 
       at_barrier : reached_tasks ≡ (settled_state J h.mark).tasks
-      at_barrier = ap (λ m. map (job_at k.roll m) k.roll.jobs) mark_is
-          ∙ ap (λ (p : Roll). map (job_at p h.mark) p.jobs)
-          (subst (IsRollOf (settled J h.mark)) kept_in served.rests.read)
+      at_barrier = ap (λ m. map (job_at n.roster.roll m) n.roster.roll.jobs) mark_is
+          ∙ ap (λ (p : Roll). map (job_at p h.mark) p.jobs) served.rests.read
           ∙ settled_jobs J valid h.mark (subst (AllByRecursion (λ (j : JobFacts). j.release ≤ h.mark))
           (sym served.handed.jobs) served.known)
 
       tasks_are : reached_tasks ≡ (settled_state (stored h tasks) h.mark).tasks
       tasks_are = at_barrier ∙ ap (λ (s : State). s.tasks)
-          (sym (state_same n.server h tasks run.items h.mark served))
+          (sym (state_same n.server n.roster h tasks run.items h.mark served))
 
       -- they are as many as were read
-      pub reached_count : length r.stances.items ≡ length k.roll.jobs
+      pub reached_count : length r.stances.items ≡ length n.roster.roll.jobs
       reached_count = omega (
         arith,
         served_count h tasks ls read r it,
-        length-map k.roll.jobs (job_at k.roll r.head.mark),
+        length-map n.roster.roll.jobs (job_at n.roster.roll r.head.mark),
         ap length at_barrier,
         count_jobs (settled_state J h.mark).tasks,
         ap length (settled_at_barrier J valid h.mark).keeps.jobs,
@@ -179,7 +177,7 @@ module _ (h : Head) (tasks : List Task) (ls : List (List ℕ)) (read : HasRead h
         as_stored = sym it.about.stances ∙ sym kept ∙ sym at ∙ ap (map stance_of) at_barrier
 
         items_are : (stored_session h tasks).items ≡ run.items
-        items_are = items_stored n.server h tasks run.items h.mark served it.about.numbered as_stored
+        items_are = items_stored n.server n.roster h tasks run.items h.mark served it.about.numbered as_stored
             read.declared few_is
 
         -- few items were handed in
@@ -277,8 +275,8 @@ module _ (h : Head) (tasks : List Task) (ls : List (List ℕ)) (read : HasRead h
 
           -- its run goes on
           pub resumes : bytes_eq line (codes "resume") ≡ true → line ≡ codes "resume" → (i : feed.Kept)
-              → has_roster n.server ≡ true → feed.StandsFor i (handed_lines h tasks) → Resumes n.server i h tasks
-          resumes last same i listed stands =
+              → feed.StandsFor i (handed_lines h tasks) → Resumes n.server n.roster i h tasks
+          resumes last same i stands =
               let whole : IsWhole h tasks (ls ++ line ∷ []) = is_whole last same in
               let handed : account_of_lines (handed_lines h tasks) ≡ handed_account h tasks =
               all_account h tasks can_pause it.fed.account in
@@ -295,8 +293,7 @@ module _ (h : Head) (tasks : List Task) (ls : List (List ℕ)) (read : HasRead h
                 account = account;
                 going = goes_on i (handed_lines h tasks) (jobs_session h tasks) stands
                     (ap (λ (a : Account). a.standing) handed) (ap (λ (a : Account). a.session) handed);
-                rests = rests_stored n.server h tasks run.items h.mark served it.about.numbered as_stored;
-                listed = listed;
+                rests = rests_stored n.server n.roster h tasks run.items h.mark served it.about.numbered as_stored;
               } where
                 -- what is kept of the lines that were handed in is kept of those of the feed
                 keeps_paused : (i : feed.Kept) → feed.KeepsAccount i (handed_account h tasks)

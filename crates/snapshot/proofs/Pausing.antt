@@ -11,16 +11,15 @@ use Rattle.dover_model.proofs.settled.Barriers.{settled_at_barrier}
 use Rattle.dover_model.proofs.runs.Honest.{count_jobs}
 use Rattle.dover_model.proofs.valid.Limiting.{jobs_most, lines_most, tick_most}
 use Rattle.dover_model.proofs.lists.Members.{some_same}
-use Rattle.ready_server.specs.Roster.{Roll, ListedJob, job_at, roll_of, Kept, IsRollOf}
+use Rattle.ready_server.specs.Roster.{Roll, ListedJob, job_at, roll_of, Kept}
 use Rattle.snapshot.specs.Snapshot.{head_line, state_line, snapshot}
 use Rattle.snapshot.specs.Pausing.{IsTakenTo, lines_in}
-use Rattle.ready_server.specs.declared.roster_server.RosterServer.{RosterServer}
+use Rattle.ready_server.specs.declared.server.ReadyServer.{ReadyServer}
 use Rattle.snapshot.proofs.Feeds.{holds, few, snapshot_is}
 use Rattle.ready_server.proofs.RollSettled.{settled_jobs}
 use Rattle.dover_model.proofs.valid.ValidParts.{valid_parts}
 
-module _ (v : RosterServer) (lines mark : ℕ) (F : List ℕ) (it : IsTakenTo v lines mark F) (k : Kept)
-    (there : v.roster ≡ Some k) where
+module _ (s : ReadyServer) (k : Kept) (lines mark : ℕ) (F : List ℕ) (it : IsTakenTo s k lines mark F) where
   abbrev J : Instance
   J = instance_of it.session
 
@@ -43,7 +42,7 @@ module _ (v : RosterServer) (lines mark : ℕ) (F : List ℕ) (it : IsTakenTo v 
 
   -- its jobs as they stand
   jobs_are : map (job_at k.roll mark) k.roll.jobs ≡ (settled_state J mark).tasks
-  jobs_are = ap (λ (p : Roll). map (job_at p mark) p.jobs) (subst (IsRollOf (settled J mark)) there it.served.read)
+  jobs_are = ap (λ (p : Roll). map (job_at p mark) p.jobs) it.served.read
       ∙ subst (λ m. map (job_at (roll_of (settled J m)) m) (roll_of (settled J m)).jobs ≡ (settled_state J m).tasks)
       (sym it.mark_is) (settled_jobs J kept.reads.valid (account F).mark kept.reads.known)
 
@@ -61,9 +60,9 @@ module _ (v : RosterServer) (lines mark : ℕ) (F : List ℕ) (it : IsTakenTo v 
   jobs_few = omega (arith, count, (valid_parts kept.reads.valid).count, jobs_most it.session.rules.version)
 
   -- the lines are those of the snapshot
-  pub text_is : in_lines (lines_in k.roll v.server.ready.rules lines mark) ≡ snapshot F
-  text_is = ap (λ n. text v.server.ready.rules n lines mark (map (job_at k.roll mark) k.roll.jobs)) count
-      ∙ ap (λ ts. text v.server.ready.rules (length J.jobs) lines mark ts) jobs_are
+  pub text_is : in_lines (lines_in k.roll s.ready.rules lines mark) ≡ snapshot F
+  text_is = ap (λ n. text s.ready.rules n lines mark (map (job_at k.roll mark) k.roll.jobs)) count
+      ∙ ap (λ ts. text s.ready.rules (length J.jobs) lines mark ts) jobs_are
       ∙ ap (λ r. text r (length J.jobs) lines mark (settled_state J mark).tasks)
       (ap (λ (r : Rules). declared_by r) (sym it.served.served.follows.rules))
       ∙ ap (λ n. text it.session.rules (length J.jobs) n mark (settled_state J mark).tasks) it.lines_are

@@ -10,12 +10,12 @@ use Rattle.snapshot.specs.Reading.{Begun, Going, Taken, read_task, with_task, wi
 use Rattle.snapshot.specs.Reading.{is_settled, refused_behind, next_line, reading_of, last_release}
 use Rattle.dover_model.proofs.runs.Honest.{count_jobs}
 use Rattle.ready_jobs.proofs.Courses.{follows_count}
-use Rattle.ready_server.proofs.Rostered.{roster_rests}
+use Rattle.ready_server.proofs.Stepping.{rests_serves}
 use Rattle.dover_model.specs.declared.horizon.Horizon.TheVariants.{Mark}
 use Rattle.snapshot.specs.Stored.{HasRead}
-use Rattle.ready_server.specs.Rostering.{Serves}
+use Rattle.ready_server.specs.Serving.{Serves}
 use Rattle.snapshot.specs.Kept.{IsReading, IsHandedIn, HasRun, HasRunTowards}
-use Rattle.ready_server.specs.declared.roster_server.RosterServer.{RosterServer}
+use Rattle.ready_server.specs.declared.server.ReadyServer.{ReadyServer}
 use Rattle.snapshot.specs.Spending.{jobs_read, jobs_kept}
 use Rattle.snapshot.specs.declared.resuming.Resuming.{Resuming}
 
@@ -39,27 +39,27 @@ jobs_next h tasks line = by (nat_lt (length tasks) h.jobs) where
   by false = at_last (bytes_eq line (codes "resume") && has_reached_mark h tasks && is_settled h tasks)
 
 -- a server has as many jobs as it was handed
-pub count_served : (v : RosterServer) (h : Head) (tasks : List Task) (items : List Item) (mark : ℕ)
+pub count_served : (s : ReadyServer) (h : Head) (tasks : List Task) (items : List Item) (mark : ℕ)
     → IsHandedIn h tasks items → (events : List Event)
-    → Serves v (instance_of (session_with h.rules items)) (Mark mark) events → v.server.ready.jobs ≡ length tasks
-count_served v h tasks items mark handed events it = omega (
+    → Serves s (instance_of (session_with h.rules items)) (Mark mark) events → s.ready.jobs ≡ length tasks
+count_served s h tasks items mark handed events it = omega (
   arith,
-  follows_count v.server.ready (instance_of (session_with h.rules items)) it.served.state it.served.follows,
+  follows_count s.ready (instance_of (session_with h.rules items)) it.state it.follows,
   ap length handed.jobs,
   count_jobs tasks,
 )
 
 pub jobs_run : (r : Resuming) (h : Head) (tasks : List Task) (mark : ℕ) → HasRun r h tasks mark
-    → r.server.server.ready.jobs ≡ length tasks
+    → r.server.ready.jobs ≡ length tasks
 jobs_run r h tasks mark it =
     let J : Instance = instance_of (session_with h.rules it.items) in
     count_served r.server h tasks it.items mark it.served.handed (settled J mark)
-    (roster_rests r.server J (Mark mark) it.served.rests)
+    (rests_serves r.server J (Mark mark) it.served.rests.rests)
 
 pub jobs_towards : (r : Resuming) (h : Head) (tasks : List Task) (mark : ℕ) → HasRunTowards r h tasks mark
-    → r.server.server.ready.jobs ≡ length tasks
+    → r.server.ready.jobs ≡ length tasks
 jobs_towards r h tasks mark it = count_served r.server h tasks it.items mark it.served.handed it.served.events
-    it.served.serves
+    it.served.serves.served
 
 -- where no more are, there are as many in the lines
 pub jobs_left : (r : Resuming) (ls : List (List ℕ)) → IsReading (Some r) ls → (line : List ℕ) (n : ℕ)
@@ -82,16 +82,16 @@ jobs_lines ls h tasks read line n same = subst (λ reading. n ≤ jobs_read read
 
 -- so where no job is served that wasn't, there are as many in the lines
 pub jobs_stay : (r : Resuming) (ls : List (List ℕ)) → IsReading (Some r) ls → (line : List ℕ) (n : ℕ)
-    → n ≤ r.server.server.ready.jobs → n ≤ jobs_read (reading_of (ls ++ line ∷ []))
+    → n ≤ r.server.ready.jobs → n ≤ jobs_read (reading_of (ls ++ line ∷ []))
 jobs_stay r ls (h, tasks, read, it) line n few = subst (λ reading. n ≤ jobs_read reading)
     (sym (fold-append next_line Begun ls (line ∷ []) ∙ ap (λ reading. next_line reading line) read.reads))
     (omega (arith, few, jobs_towards r h tasks (last_release tasks) it.run, jobs_next h tasks line))
 
 -- while the lines are read, each of their jobs is served
 pub jobs_now : (r : Resuming) (ls : List (List ℕ)) → IsReading (Some r) ls
-    → r.server.server.ready.jobs ≤ jobs_read (reading_of ls)
+    → r.server.ready.jobs ≤ jobs_read (reading_of ls)
 jobs_now r ls (h, tasks, read, it) =
-    subst (λ reading. r.server.server.ready.jobs ≤ jobs_read reading) (sym read.reads)
+    subst (λ reading. r.server.ready.jobs ≤ jobs_read reading) (sym read.reads)
     (omega (arith, jobs_towards r h tasks (last_release tasks) it.run))
 
 pub jobs_reading : (o : Option Resuming) (ls : List (List ℕ)) → IsReading o ls → jobs_kept o ≤ jobs_read (reading_of ls)

@@ -105,9 +105,10 @@ module _ (h : Head) (tasks : List Task) (ls : List (List ℕ)) (read : HasRead h
 
 -- the run depends on the server and on what was handed in
 pub same_run : (r new : Resuming) (h : Head) (tasks : List Task) (mark : ℕ) → new.server ≡ r.server
-    → new.handed ≡ r.handed → new.last ≡ r.last → HasRunTowards r h tasks mark → HasRunTowards new h tasks mark
-same_run r new h tasks mark server handed last run = record {
+    → new.roster ≡ r.roster → new.handed ≡ r.handed → new.last ≡ r.last → HasRunTowards r h tasks mark → HasRunTowards new h tasks mark
+same_run r new h tasks mark server roster handed last run = record {
   items = run.items;
   counted = record { count = handed ∙ run.counted.count; last = last ∙ run.counted.last };
-  served = subst (λ v. IsServedTowards v h tasks run.items mark) (sym server) run.served;
+  served = subst (λ s. IsServedTowards s new.roster h tasks run.items mark) (sym server)
+      (subst (λ k. IsServedTowards r.server k h tasks run.items mark) (sym roster) run.served);
 }

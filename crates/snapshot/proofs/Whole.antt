@@ -18,8 +18,9 @@ use Rattle.dover_model.proofs.runs.Honest.{count_jobs}
 use Rattle.dover_model.proofs.finishes.Meeting.{finishing_valid}
 use Rattle.dover_model.proofs.sessions.RunSessions.{run_jobs}
 use Rattle.dover_model.specs.declared.horizon.Horizon.TheVariants.{Mark}
+use Rattle.ready_server.specs.Roster as roster
 use Rattle.ready_server.specs.Rostering.{Rests}
-use Rattle.ready_server.specs.declared.roster_server.RosterServer.{RosterServer}
+use Rattle.ready_server.specs.declared.server.ReadyServer.{ReadyServer}
 use Rattle.ready_server.proofs.SameFinishes.{rests_same, read_same}
 use Rattle.admission.specs.Kept as admission
 use Rattle.event_feed.specs.Kept as feed
@@ -221,9 +222,9 @@ module _ (h : Head) (tasks : List Task) (ls : List (List ℕ)) (it : IsWhole h t
         marked = some.marked ∙ sym alike.1;
       }
 
-    pub resumes_feed : (v : RosterServer) (i : feed.Kept) (mark : ℕ) → mark ≡ h.mark → Resumes v i h tasks
-        → ResumesFeed v i mark F
-    resumes_feed v i mark same resumes =
+    pub resumes_feed : (s : ReadyServer) (k : roster.Kept) (i : feed.Kept) (mark : ℕ) → mark ≡ h.mark
+        → Resumes s k i h tasks → ResumesFeed s k i mark F
+    resumes_feed s k i mark same resumes =
         let both = both_there (Some S) (account F).session alike.3 in
         let first : S ≡ both.0 = let e : Some S ≡ Some both.0 = both.2 in cc in
         let sessions : SameSession S both.1 = subst (λ X. SameSession X both.1) (sym first) both.4 in
@@ -235,9 +236,8 @@ module _ (h : Head) (tasks : List Task) (ls : List (List ℕ)) (it : IsWhole h t
           };
           going = resumes.going;
           marked = same ∙ sym alike.1;
-          rests = subst (λ m. Rests v (instance_of both.1) (Mark m)) (sym same)
-              (rests_there v both.1 sessions resumes.rests);
-          listed = resumes.listed;
+          rests = subst (λ m. Rests s k (instance_of both.1) m) (sym same)
+              (rests_there both.1 sessions resumes.rests);
         } where
           -- the early finishes of the session are those that are stored
           stored_there : HaveTheSame (early_in h.rules.version tasks) (early_finishes S.items)
@@ -256,13 +256,12 @@ module _ (h : Head) (tasks : List Task) (ls : List (List ℕ)) (it : IsWhole h t
             λ f m. stored_there.1 f (both.finishes.1 f m),
           )
 
-          rests_there : (v : RosterServer) (T : Session) → SameSession S T → Rests v J (Mark h.mark)
-              → Rests v (instance_of T) (Mark h.mark)
-          rests_there v T both rests = subst (λ K. Rests v K (Mark h.mark)) (sym (session_is S T both
+          rests_there : (T : Session) → SameSession S T → Rests s k J h.mark → Rests s k (instance_of T) h.mark
+          rests_there T both rests = subst (λ K. Rests s k K h.mark) (sym (session_is S T both
               ∙ ap (λ js. record { rules = under h.rules (early_finishes T.items); jobs = js }) jobs_there))
               (record {
                 rests = rests_same (declared_jobs h tasks) (early_in h.rules.version tasks) (early_finishes T.items)
-                    (same_there T both) v.server (Mark h.mark) rests.rests;
+                    (same_there T both) s (Mark h.mark) rests.rests;
                 read = read_same (declared_jobs h tasks) (early_in h.rules.version tasks) (early_finishes T.items)
-                    (same_there T both) (Mark h.mark) v.roster rests.read;
+                    (same_there T both) h.mark k rests.read;
               })

@@ -1,11 +1,11 @@
 -- The feeds of which a snapshot may be, and how they go on.
-use Rattle.std.specs.Prelude.{true, ◌≡◌, ℕ, List, ◌++◌, Some}
+use Rattle.std.specs.Prelude.{◌≡◌, ℕ, List, ◌++◌, Some}
 use Rattle.dover_model.specs.Common.{in_lines, lines_of, Session, instance_of, account, due, closed}
-use Rattle.dover_model.specs.declared.horizon.Horizon.TheVariants.{Mark}
 use Rattle.event_feed.specs.Kept as feed
 use Rattle.snapshot.specs.Snapshot.{MayPause, snapshot}
-use Rattle.ready_server.specs.Rostering.{Rests, has_roster}
-use Rattle.ready_server.specs.declared.roster_server.RosterServer.{RosterServer}
+use Rattle.ready_server.specs.Roster as roster
+use Rattle.ready_server.specs.Rostering.{Rests}
+use Rattle.ready_server.specs.declared.server.ReadyServer.{ReadyServer}
 
 -- these lines are the snapshot of a feed
 pub record IsSnapshot (ls : List (List ℕ)) : Type 0 where
@@ -25,18 +25,17 @@ pub record GoOnEqually (F G H : List ℕ) : Type 0 where
   pub standing : (account (G ++ H)).standing ≡ (account (F ++ H)).standing
   pub again : MayPause (F ++ H) → MayPause (G ++ H) × (snapshot (G ++ H) ≡ snapshot (F ++ H))
 
--- The intake stands for the lines of the feed, and the server rests where it paused, at this mark, and keeps a roster.
-pub record ResumesFeed (v : RosterServer) (i : feed.Kept) (mark : ℕ) (F : List ℕ) : Type 0 where
+-- The intake stands for the lines of the feed, and the server rests where it paused, at this mark.
+pub record ResumesFeed (s : ReadyServer) (k : roster.Kept) (i : feed.Kept) (mark : ℕ) (F : List ℕ) : Type 0 where
   pub session : Session
   pub named : (account F).session ≡ Some session
   pub stands : feed.StandsFor i (lines_of F)
   pub going : feed.IsGoing i
   pub marked : mark ≡ (account F).mark
-  pub rests : Rests v (instance_of session) (Mark mark)
-  pub listed : has_roster v ≡ true
+  pub rests : Rests s k (instance_of session) mark
 
 -- What is given for a whole snapshot: its lines are those of some feed's, and for each feed with this snapshot the
 -- server and the intake go on from where it paused.
-pub record Gives (v : RosterServer) (i : feed.Kept) (mark : ℕ) (ls : List (List ℕ)) : Type 0 where
+pub record Gives (s : ReadyServer) (k : roster.Kept) (i : feed.Kept) (mark : ℕ) (ls : List (List ℕ)) : Type 0 where
   pub is : IsSnapshot ls
-  pub each : (F : List ℕ) → MayPause F → snapshot F ≡ in_lines ls → ResumesFeed v i mark F
+  pub each : (F : List ℕ) → MayPause F → snapshot F ≡ in_lines ls → ResumesFeed s k i mark F

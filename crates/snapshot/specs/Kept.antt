@@ -26,8 +26,11 @@ use Rattle.snapshot.specs.Reading.{Going, Taken, Refused, is_within_limits, decl
 use Rattle.snapshot.specs.Reading.{stored_session, last_release, has_reached_mark, is_settled, reading_of}
 use Rattle.snapshot.specs.Stored.{HasRead, ratio_text, job_lines, jobs_session, jobs_account}
 use Rattle.snapshot.specs.Forms.{head_in}
-use Rattle.ready_server.specs.Rostering.{Serves, Rests, has_roster}
-use Rattle.ready_server.specs.declared.roster_server.RosterServer.{RosterServer}
+use Rattle.ready_server.specs.Serving as ready
+use Rattle.ready_server.specs.Roster.{HasLine}
+use Rattle.ready_server.specs.Roster as roster
+use Rattle.ready_server.specs.Rostering.{Serves, Rests}
+use Rattle.ready_server.specs.declared.server.ReadyServer.{ReadyServer}
 use Rattle.snapshot.specs.declared.resuming.Stance.{Stance}
 use Rattle.snapshot.specs.declared.resuming.Resuming.{Resuming}
 use Rattle.snapshot.specs.declared.reader.Got.{Got}
@@ -131,41 +134,44 @@ IsNear J mark f = Each (λ t. t.number ≡ f.number → (t.had ≤ f.had)
     × (t.had ≡ f.had → (t.role ≡ Running) × (finish_at J mark f.number ≡ Some (record { at = mark; finish = f }))))
     (settled_state J mark).tasks
 
+-- there is room for one job more, ready and in the roster
+abbrev pub HasPlace : ReadyServer → roster.Kept → Type 0
+HasPlace s k = ready.HasPlace s × HasLine k
+
 -- The server rests at this mark of the run of these items, which hand in the jobs so far. Their other early finishes
--- are still to come there, and it keeps a roster.
-pub record IsServed (v : RosterServer) (h : Head) (tasks : List Task) (items : List Item) (mark : ℕ) : Type 0 where
-  pub handed : IsHandedIn h tasks items
-  pub no_later : mark_after 0 items ≤ mark
-  pub known : AllByRecursion (λ j. j.release ≤ mark) (jobs_of tasks)
-  pub rests : Rests v (instance_of (session_with h.rules items)) (Mark mark)
-  pub to_come : Each (λ f. IsMember f (early_finishes items) ⊎ IsToCome (instance_of
-      (session_with h.rules items)) mark f)
-      (early_in h.rules.version tasks)
-  pub listed : has_roster v ≡ true
-
--- At this mark each of the other early finishes is still to come, or comes just there, of the job that runs.
-pub record IsNearing (v : RosterServer) (h : Head) (tasks : List Task) (items : List Item) (mark : ℕ) : Type 0 where
-  pub handed : IsHandedIn h tasks items
-  pub no_later : mark_after 0 items ≤ mark
-  pub known : AllByRecursion (λ j. j.release ≤ mark) (jobs_of tasks)
-  pub rests : Rests v (instance_of (session_with h.rules items)) (Mark mark)
-  pub near : Each (λ f. IsMember f (early_finishes items) ⊎ IsNear (instance_of (session_with h.rules items)) mark f)
-      (early_in h.rules.version tasks)
-  pub listed : has_roster v ≡ true
-
--- The server was taken towards this mark in the run of these items, which hand in the jobs so far: what is due at the
--- mark may not all be given yet. Their other early finishes are still to come there, and it keeps a roster.
-pub record IsServedTowards (v : RosterServer) (h : Head) (tasks : List Task) (items : List Item) (mark : ℕ)
+-- are still to come there.
+pub record IsServed (s : ReadyServer) (k : roster.Kept) (h : Head) (tasks : List Task) (items : List Item) (mark : ℕ)
     : Type 0 where
   pub handed : IsHandedIn h tasks items
   pub no_later : mark_after 0 items ≤ mark
   pub known : AllByRecursion (λ j. j.release ≤ mark) (jobs_of tasks)
-  pub events : List Event
-  pub serves : Serves v (instance_of (session_with h.rules items)) (Mark mark) events
+  pub rests : Rests s k (instance_of (session_with h.rules items)) mark
   pub to_come : Each (λ f. IsMember f (early_finishes items) ⊎ IsToCome (instance_of
       (session_with h.rules items)) mark f)
       (early_in h.rules.version tasks)
-  pub listed : has_roster v ≡ true
+
+-- At this mark each of the other early finishes is still to come, or comes just there, of the job that runs.
+pub record IsNearing (s : ReadyServer) (k : roster.Kept) (h : Head) (tasks : List Task) (items : List Item) (mark : ℕ)
+    : Type 0 where
+  pub handed : IsHandedIn h tasks items
+  pub no_later : mark_after 0 items ≤ mark
+  pub known : AllByRecursion (λ j. j.release ≤ mark) (jobs_of tasks)
+  pub rests : Rests s k (instance_of (session_with h.rules items)) mark
+  pub near : Each (λ f. IsMember f (early_finishes items) ⊎ IsNear (instance_of (session_with h.rules items)) mark f)
+      (early_in h.rules.version tasks)
+
+-- The server was taken towards this mark in the run of these items, which hand in the jobs so far: what is due at the
+-- mark may not all be given yet. Their other early finishes are still to come there.
+pub record IsServedTowards (s : ReadyServer) (k : roster.Kept) (h : Head) (tasks : List Task) (items : List Item)
+    (mark : ℕ) : Type 0 where
+  pub handed : IsHandedIn h tasks items
+  pub no_later : mark_after 0 items ≤ mark
+  pub known : AllByRecursion (λ j. j.release ≤ mark) (jobs_of tasks)
+  pub events : List Event
+  pub serves : Serves s k (instance_of (session_with h.rules items)) mark events
+  pub to_come : Each (λ f. IsMember f (early_finishes items) ⊎ IsToCome (instance_of
+      (session_with h.rules items)) mark f)
+      (early_in h.rules.version tasks)
 
 -- what a job is, and how many ticks it has had
 abbrev pub stance_of : Task → Stance
@@ -220,19 +226,19 @@ pub record IsAbout (r : Resuming) (h : Head) (tasks : List Task) : Type 0 where
 pub record HasRun (r : Resuming) (h : Head) (tasks : List Task) (mark : ℕ) : Type 0 where
   pub items : List Item
   pub counted : IsCounted items r.handed r.last
-  pub served : IsServed r.server h tasks items mark
+  pub served : IsServed r.server r.roster h tasks items mark
 
 -- so it was, but for what may still be due there
 pub record HasRunTowards (r : Resuming) (h : Head) (tasks : List Task) (mark : ℕ) : Type 0 where
   pub items : List Item
   pub counted : IsCounted items r.handed r.last
-  pub served : IsServedTowards r.server h tasks items mark
+  pub served : IsServedTowards r.server r.roster h tasks items mark
 
 -- so it was, but for an early finish that may come there
 pub record ComesNear (r : Resuming) (h : Head) (tasks : List Task) (mark : ℕ) : Type 0 where
   pub items : List Item
   pub counted : IsCounted items r.handed r.last
-  pub near : IsNearing r.server h tasks items mark
+  pub near : IsNearing r.server r.roster h tasks items mark
 
 -- this is kept of a first line and the lines of the first jobs
 pub record Holds (r : Resuming) (h : Head) (tasks : List Task) : Type 0 where
@@ -258,19 +264,19 @@ pub record IsWhole (h : Head) (tasks : List Task) (ls : List (List ℕ)) : Type 
   pub reached : has_reached_mark h tasks ≡ true
   pub settled : is_settled h tasks ≡ true
 
--- The intake stands for the lines of that feed, and the server rests where it paused, and keeps a roster.
-pub record Resumes (v : RosterServer) (i : feed.Kept) (h : Head) (tasks : List Task) : Type 0 where
+-- The intake stands for the lines of that feed, and the server rests where it paused.
+pub record Resumes (s : ReadyServer) (k : roster.Kept) (i : feed.Kept) (h : Head) (tasks : List Task) : Type 0 where
   pub stands : feed.StandsFor i (feed_lines h tasks)
   pub account : account_of_lines (feed_lines h tasks) ≡ paused_account h tasks
   pub going : feed.IsGoing i
-  pub rests : Rests v (stored h tasks) (Mark h.mark)
-  pub listed : has_roster v ≡ true
+  pub rests : Rests s k (stored h tasks) h.mark
 
 -- these lines are a whole snapshot, and its run can be gone on with
 abbrev pub IsReady : Option Resuming → List (List ℕ) → Type 0
 IsReady None ls = ⊥
 IsReady (Some r) ls =
-    (h : Head) × (tasks : List Task) × IsWhole h tasks ls × (head_in r.head ≡ h) × Resumes r.server r.intake h tasks
+    (h : Head) × (tasks : List Task) × IsWhole h tasks ls × (head_in r.head ≡ h)
+    × Resumes r.server r.roster r.intake h tasks
 
 -- ---- what callers are told
 

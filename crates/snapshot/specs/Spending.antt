@@ -1,6 +1,6 @@
 -- What a snapshot that is read has cost so far: the comparisons of its jobs, which are served again.
 use Rattle.std.specs.Prelude.{ℕ, ◌-◌, ◌≤◌, length, Option, Some, None}
-use Rattle.ready_server.specs.Rostering.{HasPaid}
+use Rattle.ready_server.specs.Serving.{HasPaid}
 use Rattle.snapshot.specs.Reading.{Reading, Begun, Going, Taken, Refused}
 use Rattle.snapshot.specs.declared.resuming.Resuming.{Resuming}
 
@@ -14,7 +14,7 @@ jobs_read (Refused line) = line - 2
 -- how many jobs are served again
 abbrev pub jobs_kept : Option Resuming → ℕ
 jobs_kept None = 0
-jobs_kept (Some r) = r.server.server.ready.jobs
+jobs_kept (Some r) = r.server.ready.jobs
 
 -- up to here each time that a job began or ceased to wait cost 20 * d comparisons at most
 abbrev pub HasSpentOn : Option Resuming → (start now : ℕ) → Type 0

@@ -7,7 +7,7 @@ ghost use Rattle.snapshot.specs.Pausing.{IsTakenTo};
 use crate::writing::{head, last, state};
 use dover_model::{Ratio, Version};
 use line_text::BackLine;
-use ready_server::{Roster, RosterServer};
+use ready_server::{ReadyServer, Roster};
 use std::marker::Model;
 
 /// A paused feed, seen as the lines of its snapshot.
@@ -36,15 +36,15 @@ impl Model for Paused {
 }
 
 impl Paused {
-    /// Pauses a feed of so many lines at its mark, up to which its server was taken.
-    pub fn new(server: RosterServer, lines: u64, mark: u64) -> Paused
-        requires { (F : List ℕ) × IsTakenTo server lines mark F }
-        ensures { (F : List ℕ) → IsTakenTo server lines mark F → in_lines result ≡ snapshot F }
+    /// Pauses a feed of so many lines at its mark, up to which its server was taken, with the roster of its jobs.
+    pub fn new(server: &ReadyServer, roster: Roster, lines: u64, mark: u64) -> Paused
+        requires { (F : List ℕ) × IsTakenTo server.now roster lines mark F }
+        ensures { (F : List ℕ) → IsTakenTo server.now roster lines mark F → in_lines result ≡ snapshot F }
     {
         Paused {
             version: server.version(),
             ratio: server.ratio(),
-            roster: server.into_roster(),
+            roster,
             lines,
             mark,
         }

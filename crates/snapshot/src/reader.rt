@@ -1,6 +1,6 @@
 //! A snapshot read line by line.
 ghost use Rattle.std.specs.Prelude.{◌≡◌, ◌≤◌, ℕ, List, [], ◌∷◌, ◌++◌};
-ghost use Rattle.ready_server.specs.Rostering.{HasPaid};
+ghost use Rattle.ready_server.specs.Serving.{HasPaid};
 ghost use Rattle.snapshot.specs.Kept.{IsReading, IsReady, Answers};
 ghost use Rattle.snapshot.specs.Feeds.{Gives};
 ghost use Rattle.snapshot.specs.Reading.{reading_of};
@@ -9,7 +9,7 @@ ghost use Rattle.snapshot.specs.Spending.{jobs_read, jobs_kept, HasSpentOn};
 use crate::resuming::Resuming;
 use comparison_count::Comparisons;
 use event_feed::Intake;
-use ready_server::RosterServer;
+use ready_server::{ReadyServer, Roster};
 use std::alloc::Global;
 use std::marker::Model;
 use std::sync::ledger::Ledger;
@@ -104,11 +104,11 @@ impl SnapshotReader {
         self.begin(line)
     }
 
-    /// The server in the state that was stored, an intake that was handed as many lines as the paused feed had, and the
-    /// mark from which they go on. `line` has answered `Ready`. Takes no memory.
-    pub fn take(self) -> (RosterServer, Intake, u64)
+    /// The server in the state that was stored, the roster of its jobs, an intake that was handed as many lines as the
+    /// paused feed had, and the mark from which they go on. `line` has answered `Ready`. Takes no memory.
+    pub fn take(self) -> (ReadyServer, Roster, Intake, u64)
         requires { (ls : List (List ℕ)) × IsReady self ls }
-        ensures gives { (ls : List (List ℕ)) → IsReady self ls → Gives result.0 result.1 result.2 ls }
+        ensures gives { (ls : List (List ℕ)) → IsReady self ls → Gives result.0 result.1 result.2 result.3 ls }
         ensures count { (start now : ℕ) → HasSpentOn self start now → HasPaid result.0 start now }
     {
         let Some(resuming) = self.resuming else {

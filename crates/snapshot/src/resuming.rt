@@ -8,11 +8,12 @@ ghost use Rattle.dover_model.specs.Common.{Instance, last_tick, settled, MayFoll
 ghost use Rattle.dover_model.specs.declared.horizon.Horizon.TheVariants.{Mark};
 ghost use Rattle.snapshot.specs.Snapshot as model;
 ghost use Rattle.snapshot.specs.Kept.{stance_of, is_done_role, is_early, early_behind, next_early, IsAbout, HasRun};
-ghost use Rattle.snapshot.specs.Kept.{HasRunTowards, ComesNear, MayAdmit, IsAt, AreAt, IsReading, Begins, Answers};
+ghost use Rattle.snapshot.specs.Kept.{HasPlace, HasRunTowards, ComesNear, MayAdmit, IsAt, AreAt, IsReading, Begins, Answers};
 ghost use Rattle.snapshot.specs.Reading.{reading_of};
 ghost use Rattle.snapshot.specs.Spending.{jobs_read, jobs_kept, HasSpentOn};
-ghost use Rattle.ready_server.specs.Roster.{Kept, job_at, runner_at};
-ghost use Rattle.ready_server.specs.Rostering.{Serves, Rests, HasPlace, HasPaid, has_roster};
+ghost use Rattle.ready_server.specs.Roster.{job_at, runner_at};
+ghost use Rattle.ready_server.specs.Rostering.{Serves, Rests};
+ghost use Rattle.ready_server.specs.Serving as ready;
 
 use crate::feeding::{begin, hand_job, hand_ticks};
 use crate::forms::{Head, is_within_limits, read_head, read_state};
@@ -20,7 +21,7 @@ use crate::reader::{Got, SnapFault};
 use comparison_count::Comparisons;
 use dover_model::{Horizon, Job, Memory, Role, Task};
 use event_feed::Intake;
-use ready_server::{Roster, RosterServer};
+use ready_server::{ReadyServer, Roster};
 use std::alloc::Global;
 use std::sync::ledger::Ledger;
 
@@ -34,19 +35,24 @@ pub(crate) struct Stance {
 /// More printed steps than a run has.
 const MOST_STEPS: u64 = 20_000_000_002;
 
-/// Takes the run to a mark.
-fn settle<L: Ledger>(server: &mut RosterServer, mark: u64, comparisons: &mut Comparisons<L>)
-    requires serves { (J : Instance) × (m : ℕ) × (events : List Event) × Serves server.old J (Mark m) events
+/// Takes the run to a mark, with the roster of its jobs.
+fn settle<L: Ledger>(
+    server: &mut ReadyServer,
+    roster: &mut Roster,
+    mark: u64,
+    comparisons: &mut Comparisons<L>,
+)
+    requires serves { (J : Instance) × (m : ℕ) × (events : List Event) × Serves server.old roster.old J m events
         × MayFollow (Mark m) (Mark mark) }
-    ensures rests { (J : Instance) (m : ℕ) (events : List Event) → Serves server.old J (Mark m) events
-        → MayFollow (Mark m) (Mark mark) → Rests server.new J (Mark mark) }
-    ensures room { HasPlace server.old → HasPlace server.new }
-    ensures paid { (start : ℕ) → HasPaid server.old start comparisons.old → HasPaid server.new start comparisons.new }
-    ensures roster { has_roster server.new ≡ has_roster server.old }
+    ensures rests { (J : Instance) (m : ℕ) (events : List Event) → Serves server.old roster.old J m events
+        → MayFollow (Mark m) (Mark mark) → Rests server.new roster.new J mark }
+    ensures room { HasPlace server.old roster.old → HasPlace server.new roster.new }
+    ensures paid { (start : ℕ) → ready.HasPaid server.old start comparisons.old
+        → ready.HasPaid server.new start comparisons.new }
 {
     for _step in 0..MOST_STEPS {
         match server.step(Horizon::Mark(mark), comparisons) {
-            Some(_) => {}
+            Some(event) => roster.read(&event),
             None => return,
         }
     }
@@ -121,7 +127,8 @@ pub struct Resuming {
     handed: u64,
     last: u64,
     intake: Intake,
-    server: RosterServer,
+    server: ReadyServer,
+    roster: Roster,
     stances: Vec<Stance>,
 }
 
@@ -137,7 +144,7 @@ impl Resuming {
         if !is_within_limits(&head) {
             return Err(bad);
         }
-        let Ok(server) = RosterServer::new(alloc, head.version, head.ratio, true) else {
+        let Ok(server) = ReadyServer::new(alloc, head.version, head.ratio) else {
             return Err(SnapFault::Memory);
         };
         Ok(Resuming {
@@ -146,6 +153,7 @@ impl Resuming {
             last: 0,
             intake: begin(&head),
             server,
+            roster: Roster::new(alloc),
             stances: Vec::new(alloc),
         })
     }
@@ -161,11 +169,10 @@ impl Resuming {
     /// then.
     fn next_finish(&self, at: u64) -> Option<(u64, u64)>
         requires known { at ≤ last_tick }
-        requires listed { has_roster self.now.server ≡ true }
-        ensures { (k : Kept) → self.now.server.roster ≡ Some k
-            → result ≡ next_early self.now.head.version self.now.stances.items at (runner_at k.roll at) }
+        ensures { result
+            ≡ next_early self.now.head.version self.now.stances.items at (runner_at self.now.roster.roll at) }
     {
-        let Some(job) = self.server.roster().runner(at) else {
+        let Some(job) = self.roster.runner(at) else {
             return None;
         };
         if !self.head.version.may_finish_early() {
@@ -181,15 +188,14 @@ impl Resuming {
     fn next_mark(&self, at: u64, mark: u64) -> u64
         requires low { at < mark }
         requires known { mark ≤ last_tick }
-        requires listed { has_roster self.now.server ≡ true }
-        ensures after { (k : Kept) → self.now.server.roster ≡ Some k
-            → IfSome (next_early self.now.head.version self.now.stances.items at (runner_at k.roll at)) (λ p. at < p.1)
-            → at < result }
+        ensures after { IfSome
+            (next_early self.now.head.version self.now.stances.items at (runner_at self.now.roster.roll at))
+            (λ p. at < p.1) → at < result }
         ensures no_later { result ≤ mark }
-        ensures ahead { (k : Kept) → self.now.server.roster ≡ Some k
-            → IfSome (next_early self.now.head.version self.now.stances.items at (runner_at k.roll at))
+        ensures ahead { IfSome
+            (next_early self.now.head.version self.now.stances.items at (runner_at self.now.roster.roll at))
             (λ p. result ≤ p.1) }
-        ensures quiet { (J : Instance) → Rests self.now.server J (Mark at)
+        ensures quiet { (J : Instance) → ready.Rests self.now.server J (Mark at)
             → AllByRecursion (λ j. j.release ≤ at) J.jobs → at < result
             → (result ≡ at + 1) ⊎ (settled J result ≡ settled J at) }
     {
@@ -206,7 +212,7 @@ impl Resuming {
         requires known { mark ≤ last_tick }
         ensures after { at < result }
         ensures no_later { result ≤ mark }
-        ensures quiet { (J : Instance) (later : ℕ) → Rests self.now.server J (Mark at)
+        ensures quiet { (J : Instance) (later : ℕ) → ready.Rests self.now.server J (Mark at)
             → AllByRecursion (λ j. j.release ≤ at) J.jobs → at < later → later ≤ result
             → (later ≡ at + 1) ⊎ (settled J later ≡ settled J at) }
     {
@@ -224,10 +230,10 @@ impl Resuming {
         ensures run { (h : model.Head) (tasks : List Task) → IsAbout self.old h tasks → ComesNear self.old h tasks at
             → HasRun self.new h tasks at }
         ensures same { self.new ≡ record self.old
-            { server = self.new.server; handed = self.new.handed; last = self.new.last } }
-        ensures room { HasPlace self.old.server → HasPlace self.new.server }
-        ensures paid { (start : ℕ) → HasPaid self.old.server start comparisons.old
-            → HasPaid self.new.server start comparisons.new }
+            { server = self.new.server; roster = self.new.roster; handed = self.new.handed; last = self.new.last } }
+        ensures room { HasPlace self.old.server self.old.roster → HasPlace self.new.server self.new.roster }
+        ensures paid { (start : ℕ) → ready.HasPaid self.old.server start comparisons.old
+            → ready.HasPaid self.new.server start comparisons.new }
     {
         let Some((number, tick)) = self.next_finish(at) else {
             return;
@@ -236,12 +242,12 @@ impl Resuming {
             return;
         }
         match self.server.finish(at, number) {
-            Some(_) => {}
+            Some(event) => self.roster.read(&event),
             None => unreachable!(),
         }
         self.handed += 1;
         self.last = at;
-        settle(&mut self.server, at, comparisons);
+        settle(&mut self.server, &mut self.roster, at, comparisons);
     }
 
     /// Takes the run from a mark to another, turn by turn, and finishes on the way each job that is stored as done
@@ -255,15 +261,15 @@ impl Resuming {
         ensures run { (h : model.Head) (tasks : List Task) → IsAbout self.old h tasks → HasRun self.old h tasks from
             → HasRun self.new h tasks mark }
         ensures same { self.new ≡ record self.old
-            { server = self.new.server; handed = self.new.handed; last = self.new.last } }
-        ensures room { HasPlace self.old.server → HasPlace self.new.server }
-        ensures paid { (start : ℕ) → HasPaid self.old.server start comparisons.old
-            → HasPaid self.new.server start comparisons.new }
+            { server = self.new.server; roster = self.new.roster; handed = self.new.handed; last = self.new.last } }
+        ensures room { HasPlace self.old.server self.old.roster → HasPlace self.new.server self.new.roster }
+        ensures paid { (start : ℕ) → ready.HasPaid self.old.server start comparisons.old
+            → ready.HasPaid self.new.server start comparisons.new }
     {
         let mut at = from;
         while at < mark {
             at = self.next_mark(at, mark);
-            settle(&mut self.server, at, comparisons);
+            settle(&mut self.server, &mut self.roster, at, comparisons);
             self.finish_due(at, comparisons);
         }
     }
@@ -279,16 +285,16 @@ impl Resuming {
         ensures run { (h : model.Head) (tasks : List Task) → IsAbout self.old h tasks
             → HasRunTowards self.old h tasks from → HasRun self.new h tasks mark }
         ensures same { self.new ≡ record self.old
-            { server = self.new.server; handed = self.new.handed; last = self.new.last } }
-        ensures room { HasPlace self.old.server → HasPlace self.new.server }
-        ensures paid { (start : ℕ) → HasPaid self.old.server start comparisons.old
-            → HasPaid self.new.server start comparisons.new }
+            { server = self.new.server; roster = self.new.roster; handed = self.new.handed; last = self.new.last } }
+        ensures room { HasPlace self.old.server self.old.roster → HasPlace self.new.server self.new.roster }
+        ensures paid { (start : ℕ) → ready.HasPaid self.old.server start comparisons.old
+            → ready.HasPaid self.new.server start comparisons.new }
     {
         if self.head.version.may_finish_early() {
-            settle(&mut self.server, from, comparisons);
+            settle(&mut self.server, &mut self.roster, from, comparisons);
             self.turn_to(from, mark, comparisons);
         } else {
-            settle(&mut self.server, mark, comparisons);
+            settle(&mut self.server, &mut self.roster, mark, comparisons);
         }
     }
 
@@ -302,17 +308,19 @@ impl Resuming {
             → OnOk result (HasRunTowards self.new h (tasks ++ t ∷ []) job.release) }
         ensures last { OnOk result (self.new.last ≡ job.release) }
         ensures same { OnOk result (self.new ≡ record self.old
-            { server = self.new.server; handed = self.new.handed; last = self.new.last }) }
+            { server = self.new.server; roster = self.new.roster; handed = self.new.handed; last = self.new.last }) }
         ensures err { (h : model.Head) (tasks : List Task) → HasRunTowards self.old h tasks self.old.last →
-            OnErr result (self.new.server.server.ready.jobs ≡ length tasks) }
-        ensures count { (start : ℕ) → HasPaid self.old.server start comparisons.old
-            → HasPaid self.new.server start comparisons.new }
+            OnErr result (self.new.server.ready.jobs ≡ length tasks) }
+        ensures count { (start : ℕ) → ready.HasPaid self.old.server start comparisons.old
+            → ready.HasPaid self.new.server start comparisons.new }
     {
+        self.roster.make_room()?;
         self.server.make_room()?;
         self.run_to(self.last, job.release(), comparisons);
         self.handed += 1;
         self.last = job.release();
-        let _release = self.server.admit(job);
+        let release = self.server.admit(job);
+        self.roster.read(&release);
         Ok(())
     }
 
@@ -394,7 +402,7 @@ impl Resuming {
         }
         self.run_to(self.last, self.head.mark, comparisons);
         if !are_at(
-            self.server.roster(),
+            &self.roster,
             self.head.mark,
             self.stances.as_slice(),
         ) {
@@ -428,10 +436,10 @@ impl Resuming {
         }
     }
 
-    /// The server, the intake and the mark.
-    pub fn into_parts(self) -> (RosterServer, Intake, u64)
-        ensures { result ≡ (self.server, self.intake, self.head.mark) }
+    /// The server, its roster, the intake and the mark.
+    pub fn into_parts(self) -> (ReadyServer, Roster, Intake, u64)
+        ensures { result ≡ (self.server, self.roster, self.intake, self.head.mark) }
     {
-        (self.server, self.intake, self.head.mark)
+        (self.server, self.roster, self.intake, self.head.mark)
     }
 }

@@ -6,7 +6,7 @@ use Rattle.event_feed.proofs.GoingOn.{open_bytes, open_short}
 use Rattle.lane_server.proofs.Adding.{open_stands}
 use Rattle.feed_words.specs.serve.Keeping as serve
 use Rattle.feed_words.specs.serve.Keeping.{Call, Costs}
-use Rattle.feed_words.specs.declared.serve.serving.Serving.{Serving}
+use Rattle.feed_words.specs.declared.serve.pausing.Pausing.{Pausing}
 use Rattle.feed_words.proofs.serve.Talking as serving
 use Rattle.snapshot.specs.Reading.{Refused}
 use Rattle.feed_words.specs.resume.Record.{IsFrugalFor}
@@ -36,27 +36,27 @@ module _ {L : Type 0} (a : Asked) (now : ℕ) (x : List ℕ) where
     pub few_parts : (s : SnapshotStage L) → IsGiving a s now x rest → length rest < 2 ^ 64 - 1
     few_parts (stage.Opening o) at = omega (arith, ap (λ (l : List (List ℕ)). length l) at.0)
     few_parts (stage.Refused line) at = omega (arith, ap (λ (l : List (List ℕ)). length l) at.0)
-    few_parts (stage.Serving s) at = serving.few_parts (past_call a x _ at) s.feed now
-        (past_bytes a x _ at) rest at.holds
+    few_parts (stage.Serving s) at = serving.few_parts (past_call a x _ at) s.serving.feed now
+        (past_bytes a x _ at) rest at.holds.giving
 
     -- the comparisons so far
-    pub spent : (s : SnapshotStage L) → ((t : Serving L) (c : Call) (H : List ℕ) (parts : List (List ℕ))
-        → serve.IsGiving c t.feed now H parts → Costs c now H)
+    pub spent : (s : SnapshotStage L) → ((t : Pausing L) (c : Call) (H : List ℕ) (parts : List (List ℕ))
+        → serve.IsListing c t.serving.feed t.roster now H parts → Costs c now H)
         → IsGiving a s now x rest → IsFrugalFor a.start now x
     spent (stage.Opening o) law at = opening_costs a o x at.1.0 now at.1.1
     spent (stage.Refused line) law at = at.1.1
     spent (stage.Serving s) law at =
         past_spent a x _ at now (law s (past_call a x _ at) (past_bytes a x _ at) rest at.holds)
 
-  pub rested : (s : SnapshotStage L) → ((t : Serving L) (c : Call) (H : List ℕ)
-      → serve.IsReady c t.feed now H → Costs c now H)
+  pub rested : (s : SnapshotStage L) → ((t : Pausing L) (c : Call) (H : List ℕ)
+      → serve.IsListed c t.serving.feed t.roster now H → Costs c now H)
       → IsReady a s now x → IsFrugalFor a.start now x
   rested (stage.Opening o) law at = opening_costs a o x at.0 now at.1
   rested (stage.Refused line) law at = at.1
   rested (stage.Serving s) law at = past_spent a x _ at now (law s (past_call a x _ at) (past_bytes a x _ at) at.holds)
 
 -- what is kept of a feed that goes on
-pub at_serving : {L : Type 0} (a : Asked) (s : SnapshotStage L) (t : Serving L) (now : ℕ) (x : List ℕ)
+pub at_serving : {L : Type 0} (a : Asked) (s : SnapshotStage L) (t : Pausing L) (now : ℕ) (x : List ℕ)
     → s ≡ stage.Serving t → IsReady a s now x
-    → IsPast a.start x (λ c H. serve.IsReady c t.feed now H)
+    → IsPast a.start x (λ c H. serve.IsListed c t.serving.feed t.roster now H)
 at_serving a s t now x is at = subst (λ s. IsReady a s now x) is at

@@ -11,4 +11,4 @@ pub few_kept : (o : Option Resuming) (start now n : ℕ) → HasSpentOn o start 
     → CostsAtMost n start now
 few_kept None start now n none few = λ d enough. omega (arith, none)
 few_kept (Some r) start now n spent few =
-    few_more r.server.server.ready.jobs n start now few (paid_jobs r.server.server.ready start now spent.paid)
+    few_more r.server.ready.jobs n start now few (paid_jobs r.server.ready start now spent.paid)

@@ -4,7 +4,7 @@ use Rattle.std.proofs.Common.{subst, append_assoc, append-nil, arith, Bool, true
 use Rattle.std.proofs.Common.{Result, Ok, Err, take-append-drop}
 use Rattle.dover_model.specs.declared.Memory.{Memory as Lacking}
 use Rattle.dover_model.specs.declared.events.Task.{Task}
-use Rattle.dover_model.specs.Common.{in_lines, lines_of, whole_lines, account, is_open, Begins}
+use Rattle.dover_model.specs.Common.{in_lines, lines_of, whole_lines, due_lines, account, is_open, Begins}
 use Rattle.dover_model.proofs.lists.Tests.{never}
 use Rattle.dover_port.specs.Moves.{Move}
 use Rattle.dover_port.specs.declared.status.Status.{Status}
@@ -25,8 +25,9 @@ use Rattle.snapshot.proofs.Whole.{shortest_text}
 use Rattle.feed_words.specs.serve.Keeping as serve
 use Rattle.feed_words.specs.serve.Keeping.{Call, Costs, due_behind, serve_talk}
 use Rattle.lane_server.specs.declared.feed.Feed.{Feed}
+use Rattle.ready_server.specs.Roster.{Kept}
 use Rattle.feed_words.specs.declared.serve.at_end.AtEnd.{AtEnd}
-use Rattle.feed_words.specs.declared.serve.at_end.AtEnd.TheVariants.{Refuse}
+use Rattle.feed_words.specs.declared.serve.at_end.AtEnd.TheVariants.{Pause}
 use Rattle.feed_words.proofs.serve.Talking.{steady}
 use Rattle.feed_words.specs.resume.Opening.{OpeningStands, IsWholeAt, TakesFront, HasFewOf}
 use Rattle.feed_words.specs.resume.Record.{is_part, IsFrugalFor, refused_text}
@@ -185,14 +186,18 @@ opened_is o y it =
     }
 
 -- nothing is left to give
-giving_none : (c : Call) (f : Feed) (now : ℕ) (x : List ℕ) → serve.IsReady c f now x
-    → serve.IsGiving c f now x []
-giving_none c f now x it = record {
-  left = [];
-  parts_are = refl;
-  stands = record { cut = it.rests.cut; lane = it.rests.lane.stands };
-  paid = it.paid;
-  roster = it.roster;
+giving_none : (c : Call) (f : Feed) (k : Kept) (now : ℕ) (x : List ℕ) → serve.IsListed c f k now x
+    → serve.IsListing c f k now x []
+giving_none c f k now x it = record {
+  giving = record {
+    left = [];
+    parts_are = refl;
+    stands = record { cut = it.ready.rests.cut; lane = it.ready.rests.lane.stands };
+    paid = it.ready.paid;
+  };
+  given = due_lines (account (c.feed ++ x));
+  due = sym (append-nil (due_lines (account (c.feed ++ x))));
+  lists = it.lists;
 }
 
 module _ (a : Asked) (y : List ℕ) (it : IsOpened y) where
@@ -204,15 +209,15 @@ module _ (a : Asked) (y : List ℕ) (it : IsOpened y) where
   opened_due = due_at a y (Taken it.head it.tasks) it.reads ∙ ap (due_behind (feed_of it.head it.tasks)) it.behind
       ∙ (steady opened_call a.at_end).nothing
 
-  pub opened_giving : (f : Feed) (now : ℕ) → serve.IsReady opened_call f now []
-      → IsPast a.start y (λ c H. serve.IsGiving c f now H [])
-  opened_giving f now ready = record {
+  pub opened_giving : (f : Feed) (k : Kept) (now : ℕ) → serve.IsListed opened_call f k now []
+      → IsPast a.start y (λ c H. serve.IsListing c f k now H [])
+  opened_giving f k now ready = record {
     head = it.head;
     tasks = it.tasks;
     reads = it.reads;
     goes = (feed_may y it.head it.tasks it.reads).going_on;
-    holds = giving_none opened_call f now (behind_snapshot it.head it.tasks y)
-        (subst (serve.IsReady opened_call f now) (sym it.behind) ready);
+    holds = giving_none opened_call f k now (behind_snapshot it.head it.tasks y)
+        (subst (serve.IsListed opened_call f k now) (sym it.behind) ready);
   }
 
   -- it was read, and its feed goes on
@@ -223,12 +228,12 @@ module _ (a : Asked) (y : List ℕ) (it : IsOpened y) where
   whole_took o x was E e piece n some fits is (stage.Opening p) reader now gone spent = absurd gone
   whole_took o x was E e piece n some fits is (stage.Refused at) reader now gone spent = absurd gone
   whole_took o x was E e piece n some fits is (stage.Serving s) reader now on spent =
-      let ready = on opened_call now (feed_may y it.head it.tasks it.reads) it.text spent refl in took a
+      let ready = on opened_call now (feed_may y it.head it.tasks it.reads) it.text spent in took a
       (λ z parts. E × IsGiving a (stage.Serving s) now z parts) x piece n some fits
       (opening_due a o x was) (subst (λ z. (resume_talk a).due z ≡ []) is opened_due) (
         e,
-        subst (λ z. IsPast a.start z (λ c H. serve.IsGiving c s.feed now H [])) is
-            (opened_giving s.feed now ready),
+        subst (λ z. IsPast a.start z (λ c H. serve.IsListing c s.serving.feed s.roster now H [])) is
+            (opened_giving s.serving.feed s.roster now ready),
       )
 
 -- ---- its feed
@@ -236,7 +241,7 @@ module _ (a : Asked) (y : List ℕ) (it : IsOpened y) where
 module _ (a : Asked) (x : List ℕ) (T : Call → List ℕ → Type 0) (at : IsPast a.start x T) where
   -- the call, and the bytes behind the snapshot
   abbrev pub past_call : Call
-  past_call = record { feed = feed_of at.head at.tasks; goes_on = at.goes; start = a.start; listed = true }
+  past_call = record { feed = feed_of at.head at.tasks; goes_on = at.goes; start = a.start }
 
   abbrev pub past_bytes : List ℕ
   past_bytes = behind_snapshot at.head at.tasks x
@@ -255,7 +260,7 @@ module _ (a : Asked) (x : List ℕ) (T : Call → List ℕ → Type 0) (at : IsP
   past_spent now it = past_costs x at.head at.tasks at.reads a.start now it
 
   -- a piece more
-  module _ (piece : List ℕ) (f : Feed) (now : ℕ) (E : Type 0) (e : E) where
+  module _ (piece : List ℕ) (f : Feed) (k : Kept) (now : ℕ) (E : Type 0) (e : E) where
     behind_more : (more : List ℕ) → behind_snapshot at.head at.tasks (x ++ more) ≡ past_bytes ++ more
     behind_more more = behind_on x at.head at.tasks at.reads more
 
@@ -263,11 +268,11 @@ module _ (a : Asked) (x : List ℕ) (T : Call → List ℕ → Type 0) (at : IsP
     reads_more more = taken_on x more at.head at.tasks at.reads
 
     pub past_takes : (r : Result ℕ Lacking)
-        → TakesBy (serve_talk Refuse past_call.feed)
-        (λ H parts. serve.IsGiving past_call f now H parts)
+        → TakesBy (serve_talk Pause past_call.feed)
+        (λ H parts. serve.IsListing past_call f k now H parts)
         (λ H. Costs past_call now H) past_bytes piece r
         → TakesBy (resume_talk a)
-        (λ y parts. E × IsPast a.start y (λ c H. serve.IsGiving c f now H parts))
+        (λ y parts. E × IsPast a.start y (λ c H. serve.IsListing c f k now H parts))
         (λ y. IsFrugalFor a.start now y) x piece r
     past_takes (Ok n) it = (
       it.0,
@@ -284,7 +289,7 @@ module _ (a : Asked) (x : List ℕ) (T : Call → List ℕ → Type 0) (at : IsP
             tasks = at.tasks;
             reads = reads_more (take n piece);
             goes = at.goes;
-            holds = subst (λ H. serve.IsGiving past_call f now H it.2.0)
+            holds = subst (λ H. serve.IsListing past_call f k now H it.2.0)
                 (sym (behind_more (take n piece))) it.2.2;
           },
         ),
@@ -297,18 +302,18 @@ module _ (a : Asked) (x : List ℕ) (T : Call → List ℕ → Type 0) (at : IsP
     )
 
   -- a part
-  pub past_gives : (E : Type 0) → E → (f : Feed) (now : ℕ) (rest : List (List ℕ)) (part : List ℕ) (given : Bool)
-      → GivesBy (λ H parts. serve.IsGiving past_call f now H parts)
-      (λ H. serve.IsReady past_call f now H) past_bytes rest part given
-      → GivesBy (λ y parts. E × IsPast a.start y (λ c H. serve.IsGiving c f now H parts))
-      (λ y. E × IsPast a.start y (λ c H. serve.IsReady c f now H)) x rest part given
-  past_gives E e f now rest part true it = (
+  pub past_gives : (E : Type 0) → E → (f : Feed) (k : Kept) (now : ℕ) (rest : List (List ℕ)) (part : List ℕ) (given : Bool)
+      → GivesBy (λ H parts. serve.IsListing past_call f k now H parts)
+      (λ H. serve.IsListed past_call f k now H) past_bytes rest part given
+      → GivesBy (λ y parts. E × IsPast a.start y (λ c H. serve.IsListing c f k now H parts))
+      (λ y. E × IsPast a.start y (λ c H. serve.IsListed c f k now H)) x rest part given
+  past_gives E e f k now rest part true it = (
     it.0,
     it.1,
-    (e, past_with (λ c H. serve.IsGiving c f now H it.0) it.2),
+    (e, past_with (λ c H. serve.IsListing c f k now H it.0) it.2),
   )
-  past_gives E e f now rest part false it =
-      (it.0, (e, past_with (λ c H. serve.IsReady c f now H) it.1))
+  past_gives E e f k now rest part false it =
+      (it.0, (e, past_with (λ c H. serve.IsListed c f k now H) it.1))
 
   -- the answer
   served_answer : (status : Status) (text : List ℕ) (ended : Bool)

@@ -28,7 +28,7 @@ use Rattle.feed_words.proofs.resume.Parts.{behind}
 -- the call of the feed that stands for all with a snapshot
 abbrev pub call_of : (start : ℕ) (x : List ℕ) (h : Head) (ts : List Task) → reading_of (lines_of x) ≡ Taken h ts → Call
 call_of start x h ts is =
-    record { feed = feed_of h ts; goes_on = (feed_may x h ts is).going_on; start = start; listed = true }
+    record { feed = feed_of h ts; goes_on = (feed_may x h ts is).going_on; start = start }
 
 module _ (a : Asked) (x : List ℕ) where
   -- by what the lines say

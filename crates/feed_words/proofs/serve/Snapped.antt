@@ -1,14 +1,16 @@
 -- A feed that goes on from its snapshot, one that is paused, and the lines of a snapshot, put one behind another.
 use Rattle.std.proofs.Common.{◌≡◌, ℕ, [], append-nil, sym, ap, ◌∙◌, subst, Some, true, ◌<◌, ◌+◌, ◌-◌, List, ◌∷◌, ◌++◌}
-use Rattle.std.proofs.Common.{length, take, drop, get_or, Option, arith, inl, inr, Err, IfSome, take-append-drop}
-use Rattle.dover_model.specs.Common.{instance_of, Session, lines_of, in_lines, account, settled}
-use Rattle.ready_server.specs.Rostering.{Serves, HasPaid as HasSpentBy, has_roster}
-use Rattle.ready_server.specs.declared.roster_server.RosterServer.{RosterServer}
-use Rattle.ready_server.proofs.Rostered.{roster_rests}
+use Rattle.std.proofs.Common.{length, take, drop, get_or, Option, arith, inl, inr, Err, take-append-drop}
+use Rattle.dover_model.specs.Common.{instance_of, Session, lines_of, in_lines, account, due_lines, settled}
+use Rattle.ready_server.specs.Serving.{Serves, HasPaid as HasSpentBy}
+use Rattle.ready_server.specs.Roster as roster
+use Rattle.ready_server.specs.declared.server.ReadyServer.{ReadyServer}
+use Rattle.ready_server.proofs.Stepping.{rests_serves}
+use Rattle.feed_words.specs.serve.Listing.{steps_in}
+use Rattle.feed_words.proofs.serve.Listing.{settled_back}
 use Rattle.event_feed.specs.Kept as feed
-use Rattle.lane_server.specs.Lane.{IsQuiet, Stands as LaneStands}
+use Rattle.lane_server.specs.Lane.{IsQuiet, Stands as LaneStands, IsAdmitting}
 use Rattle.lane_server.specs.Feeding.{FeedRests}
-use Rattle.lane_server.specs.Rosters.{KeepsRoster}
 use Rattle.lane_server.specs.Spending.{HasPaid}
 use Rattle.lane_server.specs.declared.feed.Feed.{Feed}
 use Rattle.lane_server.specs.declared.lane.Lane.{Lane}
@@ -17,7 +19,7 @@ use Rattle.lane_server.proofs.Feeding.{quiet_on, AtMark, quiet_serves}
 use Rattle.snapshot.specs.Snapshot.{MayPause}
 use Rattle.snapshot.specs.Feeds.{ResumesFeed}
 use Rattle.snapshot.proofs.Feeds.{opened}
-use Rattle.feed_words.specs.serve.Keeping.{Call, IsReady}
+use Rattle.feed_words.specs.serve.Keeping.{Call, IsListed}
 use Rattle.std.proofs.lemmas.List.{take_more}
 use Rattle.dover_model.proofs.lists.Beginnings.{in_lines-append}
 use Rattle.dover_port.specs.Moves.{Move, Passes, CutsShort}
@@ -31,49 +33,57 @@ use Rattle.snapshot.specs.Pausing.{IsTakenTo}
 -- ---- it goes on
 
 -- it is ready for a call that goes on with it, from its mark
-pub ready_on : (c : Call) (now : ℕ) (may : MayPause c.feed) (v : RosterServer) (i : feed.Kept) (mark : ℕ)
-    (it : ResumesFeed v i mark c.feed) (l : Lane)
-    → l ≡ record { intake = i; server = Some v; mark = mark; is_open = true; work = Nothing; listed = has_roster v }
+pub listed_on : (c : Call) (now : ℕ) (may : MayPause c.feed) (s : ReadyServer) (k : roster.Kept) (i : feed.Kept)
+    (mark : ℕ) (it : ResumesFeed s k i mark c.feed) (l : Lane)
+    → l ≡ record { intake = i; server = Some s; mark = mark; is_open = true; work = Nothing }
     → (f : Feed) → f.lane ≡ l
     → (IsQuiet l (lines_of c.feed) → FeedRests f c.feed)
-    → HasSpentBy v c.start now → c.listed ≡ true → IsReady c f now []
-ready_on c now may v i mark it l is f there rests spent listed = record {
-  rests = subst (FeedRests f) (sym (append-nil c.feed))
-      (rests (subst (λ l. IsQuiet l (lines_of c.feed)) (sym is)
-      (quiet_on (lines_of c.feed) (opened c.feed may) i v (has_roster v) it.session mark it.stands it.going
-      it.named it.marked
-      (subst (λ m. Serves v (instance_of it.session) (Mark m) (settled (instance_of it.session) m)) it.marked
-      (roster_rests v (instance_of it.session) (Mark mark) it.rests)))));
-  paid = subst (λ (l : Lane). HasPaid l.server c.start now) (sym (there ∙ is)) spent;
-  roster = subst (λ (l : Lane). KeepsRoster l c.listed) (sym (there ∙ is))
-      (record { asked = it.listed ∙ sym listed; kept = it.listed ∙ sym listed });
+    → HasSpentBy s c.start now → IsListed c f k now []
+listed_on c now may s k i mark it l is f there rests spent = record {
+  ready = record {
+    rests = subst (FeedRests f) (sym (append-nil c.feed))
+        (rests (subst (λ l. IsQuiet l (lines_of c.feed)) (sym is)
+        (quiet_on (lines_of c.feed) (opened c.feed may) i s it.session mark it.stands it.going
+        it.named it.marked
+        (subst (λ m. Serves s (instance_of it.session) (Mark m) (settled (instance_of it.session) m)) it.marked
+        (rests_serves s (instance_of it.session) (Mark mark) it.rests.rests)))));
+    paid = subst (λ (l : Lane). HasPaid l.server c.start now) (sym (there ∙ is)) spent;
+  };
+  lists = λ goes. record {
+    roll = subst (λ y. roster.IsRollOf (steps_in (due_lines (account y))) k) (sym (append-nil c.feed))
+        (it.rests.read ∙ ap (λ m. roster.roll_of (settled (instance_of it.session) m)) it.marked
+        ∙ ap roster.roll_of (sym (settled_back c.feed c.goes_on it.session it.named)));
+    room = λ here. absurd (subst (λ (l : Lane). IsAdmitting l.work) (there ∙ is) here);
+  };
 }
 
 -- ---- it is paused
 
 -- the server has taken the feed to its mark, and its lines are those before the fault that says that it is short
-pub taken_to : (feed : Feed) (x : List ℕ) → FeedRests feed x → MayPause x
-    → KeepsRoster feed.lane true
-    → (lane : Lane) → lane ≡ feed.lane → (v : RosterServer) → lane.server ≡ Some v → (fault : FeedFault)
+pub taken_to : (feed : Feed) (k : roster.Kept) (x : List ℕ) → FeedRests feed x → MayPause x
+    → roster.IsRollOf (steps_in (due_lines (account x))) k
+    → (lane : Lane) → lane ≡ feed.lane → (s : ReadyServer) → lane.server ≡ Some s → (fault : FeedFault)
     → ((ls rest : List (List ℕ)) → LaneStands lane ls rest → EndAnswers {X = Unit {0}} ls (Err fault))
-    → (mark : ℕ) → mark ≡ lane.mark → IsTakenTo v (fault.line - 1) mark x
-taken_to feed x rests may roster lane is v there fault answers mark marked = record {
+    → (mark : ℕ) → mark ≡ lane.mark → IsTakenTo s k (fault.line - 1) mark x
+taken_to feed k x rests may listed lane is s there fault answers mark marked = record {
   may = may;
   lines_are = by (answers (lines_of x) [] quiet.stands);
   mark_is = marked ∙ quiet.stands.marked;
   session = at.0;
   named = at.1;
-  served = subst (λ m. Serves v (instance_of at.0) (Mark m) (settled (instance_of at.0) m))
-      (sym (marked ∙ quiet.stands.marked)) at.2;
-  listed = subst (λ o. IfSome o (λ (w : RosterServer). has_roster w ≡ true))
-      (sym (ap (λ (l : Lane). l.server) is) ∙ there) roster.kept;
+  served = record {
+    served = subst (λ m. Serves s (instance_of at.0) (Mark m) (settled (instance_of at.0) m))
+        (sym (marked ∙ quiet.stands.marked)) at.2;
+    read = listed ∙ ap roster.roll_of (settled_back x may.going_on at.0 at.1)
+        ∙ ap (λ m. roster.roll_of (settled (instance_of at.0) m)) (sym (marked ∙ quiet.stands.marked));
+  };
 } where
   quiet : IsQuiet lane (lines_of x)
   quiet = subst (λ l. IsQuiet l (lines_of x)) (sym is) rests.lane
 
-  at : (S : Session) × ((account x).session ≡ Some S) × AtMark (lines_of x) (opened x may) v S
+  at : (S : Session) × ((account x).session ≡ Some S) × AtMark (lines_of x) (opened x may) s S
       (account x).mark
-  at = quiet_serves (lines_of x) (opened x may) lane quiet v there
+  at = quiet_serves (lines_of x) (opened x may) lane quiet s there
 
   by : EndAnswers {X = Unit {0}} (lines_of x) (Err fault) → fault.line - 1 ≡ (account x).lines
   by (inl it) = omega (arith, ap (λ (f : FeedFault). f.line) it.1, lines_counted (lines_of x) (opened x may))

@@ -1,7 +1,7 @@
 -- A feed that is served, as a talk.
-use Rattle.std.proofs.Common.{◌≡◌, ◌<◌, ◌^◌, ◌-◌, ℕ, suc, List, [], ◌∷◌, ◌++◌, length, map, take, refl, sym, ap, ◌∙◌}
+use Rattle.std.proofs.Common.{◌≡◌, ◌<◌, ◌^◌, ◌-◌, ℕ, suc, List, [], ◌∷◌, ◌++◌, length, map, take, drop, refl, sym, ap, ◌∙◌}
 use Rattle.std.proofs.Common.{arith, append_assoc, append-nil, length-append, Bool, true, false, cond, inl, inr, Result}
-use Rattle.std.proofs.Common.{Ok, Err, Option, subst, OnOk}
+use Rattle.std.proofs.Common.{Ok, Err, Option, subst, OnOk, take-append-drop}
 use Rattle.std.proofs.lemmas.List.{length-map}
 use Rattle.std.proofs.lemmas.List.Folds.{flat_map-map}
 use Rattle.dover_model.specs.declared.Memory.{Memory as Lacking}
@@ -24,15 +24,17 @@ use Rattle.dialogue.proofs.Behind as beyond
 use Rattle.dialogue.specs.declared.talker.Stop.{Stop}
 use Rattle.dialogue.specs.declared.talker.Stop.TheVariants.{NoMemory, Unwritten}
 use Rattle.dover_port.specs.Moves.{Move}
-use Rattle.lane_server.specs.Lane.{IsDeclared, IsFaulty}
+use Rattle.lane_server.specs.Lane.{IsDeclared, IsFaulty, IsAdmitting}
 use Rattle.lane_server.specs.Feeding.{FeedStands, Takes}
-use Rattle.lane_server.specs.Rosters.{KeepsRoster}
 use Rattle.lane_server.specs.Spending.{HasPaid}
 use Rattle.lane_server.specs.declared.feed.Feed.{Feed}
 use Rattle.lane_server.proofs.Adding.{open_stands, opens_by}
 use Rattle.lane_server.proofs.Few.{owes_few}
+use Rattle.lane_server.proofs.Owing.{admitting_declared}
+use Rattle.ready_server.specs.Roster.{Kept, IsRollOf, HasLine}
+use Rattle.feed_words.specs.serve.Listing.{steps_in}
 use Rattle.dover_model.proofs.runs.Spending.{few_more}
-use Rattle.feed_words.specs.serve.Keeping.{Call, due_behind, serve_talk, Costs, IsGiving}
+use Rattle.feed_words.specs.serve.Keeping.{Call, due_behind, serve_talk, Costs, IsGiving, IsListing}
 use Rattle.feed_words.specs.serve.Talk.{PausesAt, IsTooLarge, IsTooLargeAt, IsServedAs, feed_talk}
 use Rattle.dialogue.specs.Sizes.{size_text}
 use Rattle.feed_words.specs.declared.serve.at_end.AtEnd.{AtEnd}
@@ -99,7 +101,7 @@ due_then F x text = beyond.due_then (feed_talk Refuse) (feed_steady Refuse) F x 
 
 module _ (c : Call) where
   -- the bytes of the call behind those of its feed
-  joins : (x y : List ℕ) → c.feed ++ (x ++ y) ≡ (c.feed ++ x) ++ y
+  pub joins : (x y : List ℕ) → c.feed ++ (x ++ y) ≡ (c.feed ++ x) ++ y
   joins x y = sym (append_assoc c.feed x y)
 
   -- the laws
@@ -131,9 +133,9 @@ module _ (c : Call) where
     -- a front of a piece was taken, or there was no memory
     pub taken : (at_end : AtEnd) (piece : List ℕ) (r : Result ℕ Lacking)
         → Takes feed (c.feed ++ x) piece r
-        → OnOk r (HasPaid feed.lane.server c.start steps) → KeepsRoster feed.lane c.listed → Costs c steps x
+        → OnOk r (HasPaid feed.lane.server c.start steps) → Costs c steps x
         → TakesBy (serve_talk at_end c.feed) (IsGiving c feed steps) (Costs c steps) x piece r
-    taken at_end piece (Ok n) it paid roster costs = (
+    taken at_end piece (Ok n) it paid costs = (
       it.0,
       it.1,
       (
@@ -149,12 +151,49 @@ module _ (c : Call) where
           parts_are = refl;
           stands = subst (λ z. FeedStands feed z it.2.0) (sym (joins x (take n piece))) it.2.2;
           paid = paid;
-          roster = roster;
         },
       ),
     )
-    taken at_end piece (Err e) it paid roster costs =
+    taken at_end piece (Err e) it paid costs =
         ((refl, subst (λ z. IsDeclared (account z)) (sym (joins x piece)) it), costs_more steps x piece costs)
+
+    -- the same of a feed that may pause, where there is room for a job that is to be admitted
+    module _ (piece : List ℕ) (n : ℕ) (it : Takes feed (c.feed ++ x) piece (Ok n)) where
+      pub taken_listed : (k l : Kept) → HasPaid feed.lane.server c.start steps → Costs c steps x
+          → IsRollOf (steps_in (due_lines (account (c.feed ++ x)))) k → l.roll ≡ k.roll
+          → (IsAdmitting feed.lane.work → HasLine l)
+          → TakesBy {E = Lacking} (serve_talk Pause c.feed) (IsListing c feed l steps) (Costs c steps) x piece (Ok n)
+      unfolding taken
+      taken_listed k l paid costs roll alike room =
+          let base = taken Pause piece (Ok n) it paid costs in (
+            base.0,
+            base.1,
+            (
+              base.2.0,
+              base.2.1,
+              record {
+                giving = base.2.2;
+                given = due_lines (account (c.feed ++ x));
+                due = ap (λ z. due_lines (account z)) (joins x (take n piece)) ∙ it.2.1;
+                lists = λ goes. record { roll = alike ∙ roll; room = room };
+              },
+            ),
+          )
+
+      -- where there was none, the ratio was declared
+      pub lacks_room : (e : Lacking) → Costs c steps x → IsAdmitting feed.lane.work
+          → TakesBy (serve_talk Pause c.feed) (λ y parts. ⊥) (Costs c steps) x piece (Err e)
+      lacks_room e costs here = (
+        (
+          refl,
+          subst (λ z. IsDeclared (account z))
+              (append_assoc (c.feed ++ x) (take n piece) (drop n piece)
+              ∙ ap (λ l. (c.feed ++ x) ++ l) (take-append-drop n piece) ∙ sym (joins x piece))
+              (declared_front ((c.feed ++ x) ++ take n piece) (drop n piece)
+              (admitting_declared feed.lane (lines_of ((c.feed ++ x) ++ take n piece)) it.2.0 it.2.2.lane here)),
+        ),
+        costs_more steps x piece costs,
+      )
 
   -- ---- the answer
 

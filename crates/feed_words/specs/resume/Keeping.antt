@@ -21,7 +21,7 @@ pub record IsPast (start : ℕ) (x : List ℕ) (T : Call → List ℕ → Type 0
   pub tasks : List Task
   pub reads : reading_of (lines_of x) ≡ Taken head tasks
   pub goes : is_open (account (feed_of head tasks)) ≡ true
-  pub holds : T (record { feed = feed_of head tasks; goes_on = goes; start = start; listed = true })
+  pub holds : T (record { feed = feed_of head tasks; goes_on = goes; start = start })
       (behind_snapshot head tasks x)
 
 -- the snapshot is still to be read on
@@ -37,17 +37,17 @@ abbrev pub IsServedOn : {L : Type 0} → SnapshotStage L → Option Resuming →
 IsServedOn (stage.Opening o) reader ls = ⊥
 IsServedOn (stage.Refused at) reader ls = ⊥
 IsServedOn (stage.Serving s) reader ls = (c : Call) (now : ℕ) → MayPause c.feed → snapshot c.feed ≡ in_lines ls
-    → HasSpentOn reader c.start now → c.listed ≡ true → serve.IsReady c s.feed now []
+    → HasSpentOn reader c.start now → serve.IsListed c s.serving.feed s.roster now []
 
 -- all that is due for these bytes was given
 abbrev pub IsReady : {L : Type 0} → Asked → SnapshotStage L → ℕ → List ℕ → Type 0
 IsReady a (stage.Opening o) now x = IsOpen a o now x
 IsReady a (stage.Refused at) now x = IsStopped a at now x
-IsReady a (stage.Serving s) now x = IsPast a.start x (λ c H. serve.IsReady c s.feed now H)
+IsReady a (stage.Serving s) now x = IsPast a.start x (λ c H. serve.IsListed c s.serving.feed s.roster now H)
 
 -- these parts are left to give
 abbrev pub IsGiving : {L : Type 0} → Asked → SnapshotStage L → ℕ → List ℕ → List (List ℕ) → Type 0
 IsGiving a (stage.Opening o) now x parts = (parts ≡ []) × IsOpen a o now x
 IsGiving a (stage.Refused at) now x parts = (parts ≡ []) × IsStopped a at now x
 IsGiving a (stage.Serving s) now x parts =
-    IsPast a.start x (λ c H. serve.IsGiving c s.feed now H parts)
+    IsPast a.start x (λ c H. serve.IsListing c s.serving.feed s.roster now H parts)

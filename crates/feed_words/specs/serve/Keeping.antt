@@ -1,30 +1,26 @@
 -- What is kept of a feed that is served on behind bytes that were read before.
-use Rattle.std.specs.Prelude.{◌≡◌, ℕ, List, ◌∷◌, ◌++◌, [], length, drop, map, Bool, true, refl}
-use Rattle.dover_model.specs.Common.{due, account, is_open, CostsAtMost}
+use Rattle.std.specs.Prelude.{◌≡◌, ℕ, List, ◌∷◌, ◌++◌, [], length, drop, map, true, refl}
+use Rattle.dover_model.specs.Common.{due, due_lines, account, is_open, CostsAtMost}
 use Rattle.event_feed.specs.Answers.{admitted_in}
 use Rattle.dialogue.specs.Talk.{Talk, talk_behind}
-use Rattle.lane_server.specs.Rosters.{KeepsRoster}
 use Rattle.lane_server.specs.Feeding.{FeedStands, FeedRests}
 use Rattle.lane_server.specs.Spending.{HasPaid}
 use Rattle.lane_server.specs.declared.feed.Feed.{Feed}
+use Rattle.ready_server.specs.Roster.{Kept}
+use Rattle.feed_words.specs.serve.Listing.{Lists}
 use Rattle.feed_words.specs.serve.Talk.{feed_talk}
 use Rattle.feed_words.specs.declared.serve.at_end.AtEnd.{AtEnd}
 
--- What a call is about: the bytes of a feed that goes on, of which all that is due was put before, the comparisons from
--- which those of the call count, and whether a roster of its jobs is kept.
+-- What a call is about: the bytes of a feed that goes on, of which all that is due was put before, and the comparisons
+-- from which those of the call count.
 pub record Call : Type 0 where
   pub feed : List ℕ
   pub goes_on : is_open (account feed) ≡ true
   pub start : ℕ
-  pub listed : Bool
 
 -- a call that is about a whole feed
-abbrev pub whole_call : Bool → ℕ → Call
-whole_call listed start = record { feed = []; goes_on = refl; start = start; listed = listed }
-
--- the call with a roster
-abbrev pub with_roster : Call → Call
-with_roster c = record c { listed = true }
+abbrev pub whole_call : ℕ → Call
+whole_call start = record { feed = []; goes_on = refl; start = start }
 
 -- what is due for the bytes behind the feed, beyond what was due for the feed
 abbrev pub due_behind : List ℕ → List ℕ → List ℕ
@@ -44,10 +40,21 @@ pub record IsGiving (c : Call) (feed : Feed) (steps : ℕ) (x : List ℕ) (parts
   pub parts_are : parts ≡ map (λ line. line ++ 10 ∷ []) left
   pub stands : FeedStands feed (c.feed ++ x) left
   pub paid : HasPaid feed.lane.server c.start steps
-  pub roster : KeepsRoster feed.lane c.listed
 
 -- all was given
 pub record IsReady (c : Call) (feed : Feed) (steps : ℕ) (x : List ℕ) : Type 0 where
   pub rests : FeedRests feed (c.feed ++ x)
   pub paid : HasPaid feed.lane.server c.start steps
-  pub roster : KeepsRoster feed.lane c.listed
+
+-- The same of a feed that may pause: while it goes on, its roster lists the lines that were given for it.
+pub record IsListing (c : Call) (feed : Feed) (roster : Kept) (steps : ℕ) (x : List ℕ) (parts : List (List ℕ)) : Type 0
+  where
+    pub giving : IsGiving c feed steps x parts
+    pub given : List (List ℕ)
+    pub due : due_lines (account (c.feed ++ x)) ≡ given ++ giving.left
+    pub lists : is_open (account (c.feed ++ x)) ≡ true → Lists roster feed.lane.work given
+
+-- all was given
+pub record IsListed (c : Call) (feed : Feed) (roster : Kept) (steps : ℕ) (x : List ℕ) : Type 0 where
+  pub ready : IsReady c feed steps x
+  pub lists : is_open (account (c.feed ++ x)) ≡ true → Lists roster feed.lane.work (due_lines (account (c.feed ++ x)))

@@ -10,7 +10,7 @@ ghost use Rattle.feed_words.specs.declared.resume.resuming.SnapshotStage.TheVari
 ghost use Rattle.snapshot.specs.Kept.{IsReady as IsWholeFor};
 
 use crate::resume::opening::Opening;
-use crate::serve::{AtEnd, Pausing, Serving};
+use crate::serve::{AtEnd, Pausing};
 use comparison_count::Comparisons;
 use dialogue::lines::put_refused;
 use dialogue::{Stop, Talker};
@@ -30,7 +30,7 @@ pub(crate) enum SnapshotStage<L: Ledger> {
     /// This line of it is refused.
     Refused(u64),
     /// It was whole, and its feed goes on.
-    Serving(Serving<L>),
+    Serving(Pausing<L>),
 }
 
 impl<L: Ledger> SnapshotStage<L> {
@@ -81,9 +81,9 @@ impl<L: Ledger> Resuming<L> {
             unreachable!();
         };
         let reader = replace(&mut opening.reader, SnapshotReader::new(self.alloc));
-        let (server, intake, mark) = reader.take();
-        let serving = Serving::resumed(self.alloc, server, intake, mark);
-        drop(replace(&mut self.stage, SnapshotStage::Serving(serving)));
+        let (server, roster, intake, mark) = reader.take();
+        let pausing = Pausing::resumed(self.alloc, server, roster, intake, mark);
+        drop(replace(&mut self.stage, SnapshotStage::Serving(pausing)));
     }
 }
 
@@ -101,11 +101,11 @@ impl<L: Ledger> Talker for Resuming<L> {
     ghost costs = { λ a now x. IsFrugalFor a.start now x };
 
     fn laws() {
-        Serving::<L>::laws();
+        Pausing::<L>::laws();
     }
 
     fn take(&mut self, meter: &mut Comparisons<L>, piece: &[u8]) -> Result<usize, Memory> {
-        Serving::<L>::laws();
+        Pausing::<L>::laws();
         match &mut self.stage {
             SnapshotStage::Opening(opening) => match opening.take(piece, meter) {
                 Ok((used, Got::More)) => Ok(used),
@@ -120,7 +120,7 @@ impl<L: Ledger> Talker for Resuming<L> {
                 Err(SnapFault::Memory) => Err(Memory),
             },
             SnapshotStage::Refused(_) => unreachable!(),
-            SnapshotStage::Serving(serving) => serving.take(meter, piece),
+            SnapshotStage::Serving(pausing) => pausing.take(meter, piece),
         }
     }
 
@@ -128,7 +128,7 @@ impl<L: Ledger> Talker for Resuming<L> {
         match &mut self.stage {
             SnapshotStage::Opening(_) => false,
             SnapshotStage::Refused(_) => false,
-            SnapshotStage::Serving(serving) => serving.next_part(meter, part),
+            SnapshotStage::Serving(pausing) => pausing.next_part(meter, part),
         }
     }
 
@@ -136,7 +136,7 @@ impl<L: Ledger> Talker for Resuming<L> {
         match &self.stage {
             SnapshotStage::Opening(_) => true,
             SnapshotStage::Refused(_) => false,
-            SnapshotStage::Serving(serving) => serving.goes_on(meter),
+            SnapshotStage::Serving(pausing) => pausing.goes_on(meter),
         }
     }
 
@@ -155,9 +155,9 @@ impl<L: Ledger> Talker for Resuming<L> {
                 refuse_snapshot(port, out, line)
             }
             SnapshotStage::Refused(line) => refuse_snapshot(port, out, line),
-            SnapshotStage::Serving(serving) => match at_end {
-                AtEnd::Refuse => serving.answer(meter, port, out, ended),
-                AtEnd::Pause => Pausing::new(serving).answer(meter, port, out, ended),
+            SnapshotStage::Serving(pausing) => match at_end {
+                AtEnd::Refuse => pausing.serving.answer(meter, port, out, ended),
+                AtEnd::Pause => pausing.answer(meter, port, out, ended),
             },
         }
     }

@@ -1,16 +1,17 @@
 //! The snapshot of a feed that is paused where its input ends.
-ghost use Rattle.std.specs.Prelude.{◌≡◌, ◌↔◌, ℕ, List, IsTrue, true};
-ghost use Rattle.dover_model.specs.Common.{account, in_lines, CostsAtMost};
+ghost use Rattle.std.specs.Prelude.{◌≡◌, ◌↔◌, ℕ, List, IsTrue};
+ghost use Rattle.dover_model.specs.Common.{account, due_lines, in_lines, CostsAtMost};
 ghost use Rattle.event_feed.specs.Answers.{admitted_in};
 ghost use Rattle.dover_port.specs.Causes.{HasCause, StopsAtFailure};
 ghost use Rattle.dover_port.specs.Moves.{PutsThrough};
 ghost use Rattle.lane_server.specs.Feeding.{FeedRests};
-ghost use Rattle.lane_server.specs.Rosters.{KeepsRoster};
 ghost use Rattle.lane_server.specs.Spending.{HasPaid};
+ghost use Rattle.ready_server.specs.Roster.{IsRollOf};
 ghost use Rattle.feed_words.specs.serve.Talk.{IsTooLarge};
+ghost use Rattle.feed_words.specs.serve.Listing.{steps_in};
 ghost use Rattle.snapshot.specs.Snapshot.{MayPause, snapshot};
 
-use crate::serve::serving::Serving;
+use crate::serve::pausing::Pausing;
 use dover_model::Version;
 use dover_port::{Failed, Output, Port};
 use lane_server::{Feed, Lane};
@@ -62,17 +63,18 @@ pub(crate) fn is_too_large(feed: &Feed) -> bool
 }
 
 /// A feed that is served and may pause, as the lines of its snapshot.
-pub(crate) fn pause<L: Ledger>(serving: Serving<L>) -> Paused
-    requires feed { (x : List ℕ) × FeedRests serving.feed x × MayPause x }
-    requires roster { KeepsRoster serving.feed.lane true }
-    ensures text { (x : List ℕ) → FeedRests serving.feed x → MayPause x →
-        in_lines result ≡ snapshot x }
-    ensures paid { (x : List ℕ) (start now : ℕ) → FeedRests serving.feed x → MayPause x →
-        HasPaid serving.feed.lane.server start now →
+pub(crate) fn pause<L: Ledger>(pausing: Pausing<L>) -> Paused
+    requires { (x : List ℕ) × FeedRests pausing.serving.feed x × MayPause x
+        × IsRollOf (steps_in (due_lines (account x))) pausing.roster }
+    ensures text { (x : List ℕ) → FeedRests pausing.serving.feed x → MayPause x →
+        IsRollOf (steps_in (due_lines (account x))) pausing.roster → in_lines result ≡ snapshot x }
+    ensures paid { (x : List ℕ) (start now : ℕ) → FeedRests pausing.serving.feed x → MayPause x →
+        HasPaid pausing.serving.feed.lane.server start now →
         CostsAtMost (admitted_in (account x)) start now }
 {
     Lane::laws();
-    let lane = serving.feed.into_lane();
+    let roster = pausing.roster;
+    let lane = pausing.serving.feed.into_lane();
     let Err(fault) = lane.end() else {
         unreachable!();
     };
@@ -80,5 +82,5 @@ pub(crate) fn pause<L: Ledger>(serving: Serving<L>) -> Paused
     let Some(server) = lane.into_server() else {
         unreachable!();
     };
-    Paused::new(server, fault.line - 1, mark)
+    Paused::new(&server, roster, fault.line - 1, mark)
 }

@@ -1,12 +1,9 @@
 //! What the reading loop calls: a feed that is served.
-ghost use Rattle.std.specs.Prelude.{◌≡◌, ◌++◌, Bool, ℕ, List, [], true};
+ghost use Rattle.std.specs.Prelude.{◌≡◌, ◌++◌, Bool, ℕ, List, []};
 ghost use Rattle.dialogue.specs.Talk.{IsOver};
 ghost use Rattle.dialogue.specs.Turns.{AnswersBy, StopCause, StopsOn};
 ghost use Rattle.dover_model.specs.Lines.{lines_of};
 ghost use Rattle.lane_server.specs.Lane.{Stands};
-ghost use Rattle.ready_server.specs.Rostering.{HasPaid};
-ghost use Rattle.snapshot.specs.Snapshot.{MayPause};
-ghost use Rattle.snapshot.specs.Feeds.{ResumesFeed};
 ghost use Rattle.feed_words.specs.serve.Keeping.{Call, whole_call, serve_talk, IsGiving, IsReady, Costs};
 ghost use Rattle.feed_words.specs.declared.serve.at_end.AtEnd.TheVariants.{Refuse};
 
@@ -15,10 +12,8 @@ use dialogue::lines::{put_fault, write_next};
 use dialogue::{Stop, Talker};
 use dover_model::Memory;
 use dover_port::{Output, Port, Status};
-use event_feed::Intake;
 use lane_server::{Feed, Lane};
 use line_text::BackLine;
-use ready_server::RosterServer;
 use std::alloc::Global;
 use std::marker::PhantomData;
 use std::sync::ledger::Ledger;
@@ -31,24 +26,12 @@ pub struct Serving<L: Ledger> {
 }
 
 impl<L: Ledger> Serving<L> {
-    /// A feed that goes on from its snapshot, which gave the server, the intake and the mark. Nothing is given that was
-    /// due before the pause.
-    pub fn resumed(alloc: Global, server: RosterServer, intake: Intake, mark: u64) -> Serving<L>
-        ensures { (c : Call) (now : ℕ) → MayPause c.feed → ResumesFeed server intake mark c.feed →
-            HasPaid server c.start now → c.listed ≡ true → IsReady c result.feed now [] }
+    /// A feed of which nothing was read yet.
+    pub fn new(alloc: Global) -> Serving<L>
+        ensures { (start : ℕ) → IsReady (whole_call start) result.feed start [] }
     {
         Serving {
-            feed: Feed::behind(alloc, Lane::resumed(intake, server, mark)),
-            counts: PhantomData,
-        }
-    }
-
-    /// A feed of which nothing was read yet, with a roster of its jobs where one is asked for.
-    pub fn new(alloc: Global, listed: bool) -> Serving<L>
-        ensures { (start : ℕ) → IsReady (whole_call listed start) result.feed start [] }
-    {
-        Serving {
-            feed: Feed::new(alloc, listed),
+            feed: Feed::new(alloc),
             counts: PhantomData,
         }
     }

@@ -28,7 +28,7 @@ pub fn serve_word<P: Port, L: Ledger>(
         (P.write_faults port.new) }
     ensures stops { StopsWith result (P.calls port.old) (P.calls port.new) }
 {
-    converse(port, Serving::<L>::new(alloc, false), comparisons)
+    converse(port, Serving::<L>::new(alloc), comparisons)
 }
 
 /// Serves a feed, as `serve_word` does, but for the end of an input behind whole lines: there the feed's snapshot is
@@ -45,6 +45,5 @@ pub fn pause_word<P: Port, L: Ledger>(
         (P.write_faults port.new) }
     ensures stops { StopsWith result (P.calls port.old) (P.calls port.new) }
 {
-    let serving = Serving::new(alloc, true);
-    converse(port, Pausing { serving }, comparisons)
+    converse(port, Pausing::<L>::new(alloc), comparisons)
 }

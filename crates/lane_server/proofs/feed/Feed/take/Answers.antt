@@ -20,14 +20,8 @@ returns-in-Ok-clause-takes c =
 pub returns-in-Ok-clause-paid : goal.returns-in-Ok-clause-paid
 returns-in-Ok-clause-paid c = c.in-Ok.ensures.paid
 
-pub returns-in-Ok-clause-roster : goal.returns-in-Ok-clause-roster
-returns-in-Ok-clause-roster c = c.in-Ok.ensures.roster
-
 pub returns-in-Err-clause-paid : goal.returns-in-Err-clause-paid
 returns-in-Err-clause-paid c = λ x start now at paid. tt
-
-pub returns-in-Err-clause-roster : goal.returns-in-Err-clause-roster
-returns-in-Err-clause-roster c = c.in-Err.ensures.roster
 
 pub front-count-requires : goal.front-count-requires
 front-count-requires c = c.requires.some

@@ -34,19 +34,10 @@ line-requires-in-TooLong-2 c = (lines_of c.requires.0, c.requires.1.lane)
 pub returns-in-More-clause-paid : goal.returns-in-More-clause-paid
 returns-in-More-clause-paid c = λ x start now at paid. paid
 
-pub returns-in-More-clause-roster : goal.returns-in-More-clause-roster
-returns-in-More-clause-roster c = λ listed it. it
-
 pub returns-in-Line-clause-paid : goal.returns-in-Line-clause-paid
 returns-in-Line-clause-paid c = λ x start now at paid.
     c.line-in-Line.ensures.paid (lines_of x) start now at.lane paid
 
-pub returns-in-Line-clause-roster : goal.returns-in-Line-clause-roster
-returns-in-Line-clause-roster c = c.line-in-Line.ensures.roster
-
 pub returns-in-TooLong-clause-paid : goal.returns-in-TooLong-clause-paid
 returns-in-TooLong-clause-paid c = λ x start now at paid.
     c.line-in-TooLong-2.ensures.paid (lines_of x) start now at.lane paid
-
-pub returns-in-TooLong-clause-roster : goal.returns-in-TooLong-clause-roster
-returns-in-TooLong-clause-roster c = c.line-in-TooLong-2.ensures.roster

@@ -14,9 +14,6 @@ returns-then-bytes-gt1-clause-hands c = λ x at goes.
 pub pass-requires : goal.pass-requires
 pass-requires c = c.requires.whole c.if-bytes-gt1.true
 
-pub returns-then-bytes-gt1-clause-roster : goal.returns-then-bytes-gt1-clause-roster
-returns-then-bytes-gt1-clause-roster c = c.line.ensures.roster
-
 pub take_byte-requires : goal.take_byte-requires
 take_byte-requires c = c.requires.rests
 
@@ -29,6 +26,3 @@ returns-clause-hands c = λ x at goes. let bytes = c.args.bytes.now in
 
 pub returns-clause-paid : goal.returns-clause-paid
 returns-clause-paid c = c.take_byte.ensures.paid
-
-pub returns-clause-roster : goal.returns-clause-roster
-returns-clause-roster c = c.take_byte.ensures.roster

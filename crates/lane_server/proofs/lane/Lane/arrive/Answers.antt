@@ -1,5 +1,4 @@
-use Rattle.std.proofs.Common.{◌≡◌, IfSome, refl, ◌∙◌, subst}
-use Rattle.ready_server.specs.Rostering.{has_roster}
+use Rattle.std.proofs.Common.{refl, subst}
 use Rattle.lane_server.specs.Spending.{HasPaid}
 use Rattle.lane_server.proofs.Taking.{arrive_adds}
 use Rattle.lane_server.proofs.lane.Lane.arrive.Goals as goal
@@ -13,13 +12,6 @@ returns-clause-adds c = λ n a b at it. arrive_adds c.args.self.now n c.args.job
 pub returns-clause-paid : goal.returns-clause-paid
 returns-clause-paid c = λ start now paid. c.make_room_unless_full.ensures.paid start now
     (subst (λ o. HasPaid o start now) c.in-Some.is paid)
-
-pub returns-clause-roster : goal.returns-clause-roster
-returns-clause-roster c = λ listed it. record {
-  asked = it.asked;
-  kept = c.make_room_unless_full.ensures.roster
-      ∙ subst (λ o. IfSome o (λ v. has_roster v ≡ listed)) c.in-Some.is it.kept;
-}
 
 pub returns-clause-intake : goal.returns-clause-intake
 returns-clause-intake c = refl

@@ -1,5 +1,4 @@
-use Rattle.std.proofs.Common.{◌≡◌, IfSome, refl, sym, ◌∙◌, subst}
-use Rattle.ready_server.specs.Rostering.{has_roster}
+use Rattle.std.proofs.Common.{refl, sym, subst}
 use Rattle.lane_server.specs.Lane.{Adds}
 use Rattle.lane_server.specs.Spending.{HasPaid}
 use Rattle.lane_server.specs.declared.lane.Work.TheVariants.{Give}
@@ -23,10 +22,3 @@ returns-clause-intake c = refl
 
 pub returns-clause-work : goal.returns-clause-work
 returns-clause-work c = refl
-
-pub returns-clause-roster : goal.returns-clause-roster
-returns-clause-roster c = λ listed it. record {
-  asked = it.asked;
-  kept = subst (λ o. IfSome o (λ v. has_roster v ≡ listed)) (sym c.replace.ensures.after)
-      (c.in_ok-server.ensures.roster ∙ it.asked);
-}

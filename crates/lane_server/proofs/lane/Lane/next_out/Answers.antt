@@ -1,4 +1,7 @@
-use Rattle.lane_server.proofs.Owing.{lane_empty, lane_given}
+use Rattle.std.proofs.Common.{subst}
+use Rattle.lane_server.specs.Lane.{GivesFault}
+use Rattle.lane_server.specs.declared.lane.Work.TheVariants.{Nothing}
+use Rattle.lane_server.proofs.Owing.{lane_empty, lane_given, given_line}
 use Rattle.lane_server.proofs.lane.Lane.next_out.Goals as goal
 
 pub run-requires-clause-work : goal.run-requires-clause-work
@@ -25,17 +28,11 @@ returns-in-Nothing-clause-gives g c = λ ls rest it. lane_empty c.args.self.now 
 pub returns-in-Nothing-clause-paid : goal.returns-in-Nothing-clause-paid
 returns-in-Nothing-clause-paid g c = λ start paid. paid
 
-pub returns-in-Nothing-clause-roster : goal.returns-in-Nothing-clause-roster
-returns-in-Nothing-clause-roster g c = λ listed it. it
-
 pub returns-in-Give-clause-gives : goal.returns-in-Give-clause-gives
 returns-in-Give-clause-gives g c = λ ls rest it. lane_given c.args.self.now _ ls rest it c.in-Give.is
 
 pub returns-in-Give-clause-paid : goal.returns-in-Give-clause-paid
 returns-in-Give-clause-paid g c = λ start paid. paid
-
-pub returns-in-Give-clause-roster : goal.returns-in-Give-clause-roster
-returns-in-Give-clause-roster g c = λ listed it. record { asked = it.asked; kept = it.kept }
 
 pub returns-in-Run-clause-gives : goal.returns-in-Run-clause-gives
 returns-in-Run-clause-gives g c = c.run.ensures.gives
@@ -43,17 +40,11 @@ returns-in-Run-clause-gives g c = c.run.ensures.gives
 pub returns-in-Run-clause-paid : goal.returns-in-Run-clause-paid
 returns-in-Run-clause-paid g c = c.run.ensures.paid
 
-pub returns-in-Run-clause-roster : goal.returns-in-Run-clause-roster
-returns-in-Run-clause-roster g c = c.run.ensures.roster
-
 pub returns-in-Admit-clause-gives : goal.returns-in-Admit-clause-gives
 returns-in-Admit-clause-gives g c = c.admit.ensures.gives
 
 pub returns-in-Admit-clause-paid : goal.returns-in-Admit-clause-paid
 returns-in-Admit-clause-paid g c = c.admit.ensures.paid
-
-pub returns-in-Admit-clause-roster : goal.returns-in-Admit-clause-roster
-returns-in-Admit-clause-roster g c = c.admit.ensures.roster
 
 pub returns-in-Finish-clause-gives : goal.returns-in-Finish-clause-gives
 returns-in-Finish-clause-gives g c = c.finish.ensures.gives
@@ -61,5 +52,19 @@ returns-in-Finish-clause-gives g c = c.finish.ensures.gives
 pub returns-in-Finish-clause-paid : goal.returns-in-Finish-clause-paid
 returns-in-Finish-clause-paid g c = c.finish.ensures.paid
 
-pub returns-in-Finish-clause-roster : goal.returns-in-Finish-clause-roster
-returns-in-Finish-clause-roster g c = c.finish.ensures.roster
+pub returns-in-Nothing-clause-admits : goal.returns-in-Nothing-clause-admits
+returns-in-Nothing-clause-admits g c = λ is. is
+
+pub returns-in-Give-clause-admits : goal.returns-in-Give-clause-admits
+returns-in-Give-clause-admits g c =
+    let (ls, rest, it) = c.requires in
+    given_line c.args.self.now.is_open c.args.self.now.work Nothing c.in-Give.out ls (subst (λ w. GivesFault w ls) c.in-Give.is it.names) (λ is. absurd is)
+
+pub returns-in-Run-clause-admits : goal.returns-in-Run-clause-admits
+returns-in-Run-clause-admits g c = c.run.ensures.admits
+
+pub returns-in-Admit-clause-admits : goal.returns-in-Admit-clause-admits
+returns-in-Admit-clause-admits g c = c.admit.ensures.admits
+
+pub returns-in-Finish-clause-admits : goal.returns-in-Finish-clause-admits
+returns-in-Finish-clause-admits g c = c.finish.ensures.admits

@@ -3,7 +3,6 @@ use Rattle.dover_model.proofs.lists.Members.{err_any}
 use Rattle.event_feed.specs.Answers.{IsFed, counted}
 use Rattle.lane_server.specs.Lane.{TurnsTo}
 use Rattle.lane_server.specs.Spending.{HasPaid}
-use Rattle.ready_server.specs.Rostering.{has_roster}
 use Rattle.lane_server.proofs.Taking.{tick_adds, over_adds, refused_job_adds, ratio_declares, job_declared}
 use Rattle.lane_server.proofs.lane.Lane.take.Goals as goal
 
@@ -15,9 +14,6 @@ pub returns-in-Ratio-clause-paid : goal.returns-in-Ratio-clause-paid
 returns-in-Ratio-clause-paid c =
     λ a b start now at it paid. c.declare.ensures.paid a b start now at
     (subst (λ x. IsFed (counted a) b x) c.in-Ratio.is it) paid
-
-pub returns-in-Ratio-clause-roster : goal.returns-in-Ratio-clause-roster
-returns-in-Ratio-clause-roster c = c.declare.ensures.roster
 
 pub returns-in-Ratio-clause-lacks : goal.returns-in-Ratio-clause-lacks
 returns-in-Ratio-clause-lacks c = λ a b it. err_any c.declare.result
@@ -36,9 +32,6 @@ returns-in-Job-clause-adds c =
 
 pub returns-in-Job-clause-paid : goal.returns-in-Job-clause-paid
 returns-in-Job-clause-paid c = λ a b start now at it paid. c.arrive.ensures.paid start now paid
-
-pub returns-in-Job-clause-roster : goal.returns-in-Job-clause-roster
-returns-in-Job-clause-roster c = c.arrive.ensures.roster
 
 pub returns-in-Job-clause-lacks : goal.returns-in-Job-clause-lacks
 returns-in-Job-clause-lacks c = λ a b it. err_any c.arrive.result
@@ -74,26 +67,17 @@ returns-in-Done-clause-intake c = c.finish_at.ensures.intake
 pub returns-in-Tick-clause-paid : goal.returns-in-Tick-clause-paid
 returns-in-Tick-clause-paid c = λ a b start now at it paid. paid
 
-pub returns-in-Tick-clause-roster : goal.returns-in-Tick-clause-roster
-returns-in-Tick-clause-roster c = λ listed it. record { asked = it.asked; kept = it.kept }
-
 pub returns-in-Tick-clause-intake : goal.returns-in-Tick-clause-intake
 returns-in-Tick-clause-intake c = refl
 
 pub returns-in-Over-clause-paid : goal.returns-in-Over-clause-paid
 returns-in-Over-clause-paid c = λ a b start now at it paid. paid
 
-pub returns-in-Over-clause-roster : goal.returns-in-Over-clause-roster
-returns-in-Over-clause-roster c = λ listed it. record { asked = it.asked; kept = it.kept }
-
 pub returns-in-Over-clause-intake : goal.returns-in-Over-clause-intake
 returns-in-Over-clause-intake c = refl
 
 pub returns-in-Refused-clause-paid : goal.returns-in-Refused-clause-paid
 returns-in-Refused-clause-paid c = λ a b start now at it paid. paid
-
-pub returns-in-Refused-clause-roster : goal.returns-in-Refused-clause-roster
-returns-in-Refused-clause-roster c = λ listed it. record { asked = it.asked; kept = it.kept }
 
 pub returns-in-Refused-clause-intake : goal.returns-in-Refused-clause-intake
 returns-in-Refused-clause-intake c = refl
@@ -134,12 +118,6 @@ arrive-requires c = (
 pub returns-in-Done-clause-paid : goal.returns-in-Done-clause-paid
 returns-in-Done-clause-paid c = λ a b start now at it paid.
     subst (λ o. HasPaid o start now) (sym c.finish_at.ensures.server) paid
-
-pub returns-in-Done-clause-roster : goal.returns-in-Done-clause-roster
-returns-in-Done-clause-roster c = λ listed it. record {
-  asked = c.finish_at.ensures.listed ∙ it.asked;
-  kept = subst (λ o. IfSome o (λ v. has_roster v ≡ listed)) (sym c.finish_at.ensures.server) it.kept;
-}
 
 pub returns-in-Job-clause-turns : goal.returns-in-Job-clause-turns
 returns-in-Job-clause-turns c =

@@ -20,13 +20,13 @@ returns c =
       [],
       read,
       record {
-        about = record { head = refl; numbered = tt; stances = c.new-2.ensures.items };
+        about = record { head = refl; numbered = tt; stances = c.new-3.ensures.items };
         released = refl;
         fed = c.begin.ensures;
         run = record {
           items = [];
           counted = record { count = refl; last = refl };
-          served = first_served c.in-Ok.server (head_in c.in-Some.head) c.in-Ok.ensures.serves c.in-Ok.ensures.roster;
+          served = first_served c.in-Ok.server c.new-2.result (head_in c.in-Some.head) c.in-Ok.ensures.serves c.new-2.ensures;
         };
       },
     )

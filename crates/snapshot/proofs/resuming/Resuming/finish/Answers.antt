@@ -30,14 +30,6 @@ run_to-requires-clause-known g c =
     let read = c.requires.reading.1.2 in let it = c.requires.reading.1.3 in
     (mark_follows h tasks ls read c.args.self.now it).1
 
-pub roster-requires : goal.roster-requires
-roster-requires g c =
-    let ls = c.requires.reading.0 in let h = c.requires.reading.1.0 in let tasks = c.requires.reading.1.1 in
-    let read = c.requires.reading.1.2 in let it = c.requires.reading.1.3 in
-    let run : HasRun c.run_to.new.self h tasks c.args.self.now.head.mark =
-    c.run_to.ensures.run h tasks it.about (run_so_far h tasks ls read c.args.self.now it) in
-    run.served.listed
-
 pub are_at-requires : goal.are_at-requires
 are_at-requires g c =
     let ls = c.requires.reading.0 in let h = c.requires.reading.1.0 in let tasks = c.requires.reading.1.1 in
@@ -46,19 +38,17 @@ are_at-requires g c =
     c.run_to.ensures.run h tasks it.about (run_so_far h tasks ls read c.args.self.now it) in
     ap length (c.as_slice-2.ensures.value ∙ ap (λ (x : Resuming). x.stances.items) c.run_to.ensures.same)
     ∙ reached_count h tasks ls read c.args.self.now it c.args.line.now c.requires.all c.run_to.new.self run
-    c.roster.result.now c.roster.ensures
 
 pub returns-then-not-are_at-clause-answers : goal.returns-then-not-are_at-clause-answers
 returns-then-not-are_at-clause-answers g c = λ ls (h, tasks, read, it).
     let run : HasRun c.run_to.new.self h tasks c.args.self.now.head.mark =
     c.run_to.ensures.run h tasks it.about (run_so_far h tasks ls read c.args.self.now it) in
     let same = c.run_to.ensures.same in
-    let k = c.roster.result.now in
-    state_refused h tasks ls read c.args.self.now it c.args.line.now c.requires.all c.run_to.new.self run k
-    c.roster.ensures c.count.result c.as_slice-2.result.now c.count.ensures
+    state_refused h tasks ls read c.args.self.now it c.args.line.now c.requires.all c.run_to.new.self run
+    c.count.result c.as_slice-2.result.now c.count.ensures
     (c.as_slice-2.ensures.value ∙ ap (λ (x : Resuming). x.stances.items) same)
     (λ at. let passes : c.are_at.result ≡ true =
-    c.are_at.ensures.1 (subst (λ m. AreAt (map (job_at k.roll m) k.roll.jobs) c.as_slice-2.result.now)
+    c.are_at.ensures.1 (subst (λ m. AreAt (map (job_at c.run_to.new.self.roster.roll m) c.run_to.new.self.roster.roll.jobs) c.as_slice-2.result.now)
     (sym (ap (λ (x : Resuming). x.head.mark) same)) at) in
     absurd (let clash : true ≡ false = sym passes ∙ c.if-not-are_at.true in cc))
 
@@ -71,12 +61,11 @@ has_lines-requires g c =
     let same = c.run_to.ensures.same in
     let kept : c.as_slice-2.result.now ≡ c.args.self.now.stances.items =
     c.as_slice-2.ensures.value ∙ ap (λ (x : Resuming). x.stances.items) same in
-    let k = c.roster.result.now in
-    let at : AreAt (map (job_at k.roll c.args.self.now.head.mark) k.roll.jobs) c.as_slice-2.result.now =
-    subst (λ m. AreAt (map (job_at k.roll m) k.roll.jobs) c.as_slice-2.result.now)
+    let at : AreAt (map (job_at c.run_to.new.self.roster.roll c.args.self.now.head.mark) c.run_to.new.self.roster.roll.jobs) c.as_slice-2.result.now =
+    subst (λ m. AreAt (map (job_at c.run_to.new.self.roster.roll m) c.run_to.new.self.roster.roll.jobs) c.as_slice-2.result.now)
     (ap (λ (x : Resuming). x.head.mark) same) (c.are_at.ensures.0 c.if-not-are_at.false) in
-    few_handed h tasks ls read c.args.self.now it c.args.line.now c.requires.all c.run_to.new.self run k
-    c.roster.ensures c.as_slice-2.result.now kept at
+    few_handed h tasks ls read c.args.self.now it c.args.line.now c.requires.all c.run_to.new.self run
+    c.as_slice-2.result.now kept at
 
 pub returns-then-not-has_lines-clause-answers : goal.returns-then-not-has_lines-clause-answers
 returns-then-not-has_lines-clause-answers g c = λ ls (h, tasks, read, it).
@@ -85,12 +74,11 @@ returns-then-not-has_lines-clause-answers g c = λ ls (h, tasks, read, it).
     let same = c.run_to.ensures.same in
     let kept : c.as_slice-2.result.now ≡ c.args.self.now.stances.items =
     c.as_slice-2.ensures.value ∙ ap (λ (x : Resuming). x.stances.items) same in
-    let k = c.roster.result.now in
-    let at : AreAt (map (job_at k.roll c.args.self.now.head.mark) k.roll.jobs) c.as_slice-2.result.now =
-    subst (λ m. AreAt (map (job_at k.roll m) k.roll.jobs) c.as_slice-2.result.now)
+    let at : AreAt (map (job_at c.run_to.new.self.roster.roll c.args.self.now.head.mark) c.run_to.new.self.roster.roll.jobs) c.as_slice-2.result.now =
+    subst (λ m. AreAt (map (job_at c.run_to.new.self.roster.roll m) c.run_to.new.self.roster.roll.jobs) c.as_slice-2.result.now)
     (ap (λ (x : Resuming). x.head.mark) same) (c.are_at.ensures.0 c.if-not-are_at.false) in
-    mark_refused h tasks ls read c.args.self.now it c.args.line.now c.requires.all c.run_to.new.self run k
-    c.roster.ensures c.as_slice-2.result.now kept at c.count.result c.count.ensures
+    mark_refused h tasks ls read c.args.self.now it c.args.line.now c.requires.all c.run_to.new.self run
+    c.as_slice-2.result.now kept at c.count.result c.count.ensures
     (ap (λ (x : Resuming). x.head) same) (sym c.has_lines.ensures ∙ c.if-not-has_lines.true)
 
 pub hand_ticks-requires : goal.hand_ticks-requires
@@ -102,17 +90,16 @@ hand_ticks-requires g c =
     let same = c.run_to.ensures.same in
     let kept : c.as_slice-2.result.now ≡ c.args.self.now.stances.items =
     c.as_slice-2.ensures.value ∙ ap (λ (x : Resuming). x.stances.items) same in
-    let k = c.roster.result.now in
-    let at : AreAt (map (job_at k.roll c.args.self.now.head.mark) k.roll.jobs) c.as_slice-2.result.now =
-    subst (λ m. AreAt (map (job_at k.roll m) k.roll.jobs) c.as_slice-2.result.now)
+    let at : AreAt (map (job_at c.run_to.new.self.roster.roll c.args.self.now.head.mark) c.run_to.new.self.roster.roll.jobs) c.as_slice-2.result.now =
+    subst (λ m. AreAt (map (job_at c.run_to.new.self.roster.roll m) c.run_to.new.self.roster.roll.jobs) c.as_slice-2.result.now)
     (ap (λ (x : Resuming). x.head.mark) same) (c.are_at.ensures.0 c.if-not-are_at.false) in
     let reached : has_reached_mark h tasks ≡ true = sym (lines_are h tasks ls read c.args.self.now it c.args.line.now
-    c.requires.all c.run_to.new.self run k
-    c.roster.ensures c.as_slice-2.result.now kept at
+    c.requires.all c.run_to.new.self run
+    c.as_slice-2.result.now kept at
     (ap (λ (x : Resuming). x.head) same)) ∙ sym c.has_lines.ensures ∙ c.if-not-has_lines.false in
     let can : CanPause h tasks = can_pause h tasks ls read c.args.self.now it c.args.line.now c.requires.all
-    c.run_to.new.self run k
-    c.roster.ensures c.as_slice-2.result.now kept at reached in
+    c.run_to.new.self run
+    c.as_slice-2.result.now kept at reached in
     let fed : IsFed c.run_to.new.self.intake (head_in c.run_to.new.self.head) tasks =
     subst (λ (x : Resuming). IsFed x.intake (head_in x.head) tasks) (sym same)
     (subst (λ (x : Head). IsFed c.args.self.now.intake x tasks) (sym it.about.head) it.fed) in
@@ -128,17 +115,16 @@ returns-clause-answers g c = λ ls (h, tasks, read, it).
     let same = c.run_to.ensures.same in
     let kept : c.as_slice-2.result.now ≡ c.args.self.now.stances.items =
     c.as_slice-2.ensures.value ∙ ap (λ (x : Resuming). x.stances.items) same in
-    let k = c.roster.result.now in
-    let at : AreAt (map (job_at k.roll c.args.self.now.head.mark) k.roll.jobs) c.as_slice-2.result.now =
-    subst (λ m. AreAt (map (job_at k.roll m) k.roll.jobs) c.as_slice-2.result.now)
+    let at : AreAt (map (job_at c.run_to.new.self.roster.roll c.args.self.now.head.mark) c.run_to.new.self.roster.roll.jobs) c.as_slice-2.result.now =
+    subst (λ m. AreAt (map (job_at c.run_to.new.self.roster.roll m) c.run_to.new.self.roster.roll.jobs) c.as_slice-2.result.now)
     (ap (λ (x : Resuming). x.head.mark) same) (c.are_at.ensures.0 c.if-not-are_at.false) in
     let reached : has_reached_mark h tasks ≡ true = sym (lines_are h tasks ls read c.args.self.now it c.args.line.now
-    c.requires.all c.run_to.new.self run k
-    c.roster.ensures c.as_slice-2.result.now kept at
+    c.requires.all c.run_to.new.self run
+    c.as_slice-2.result.now kept at
     (ap (λ (x : Resuming). x.head) same)) ∙ sym c.has_lines.ensures ∙ c.if-not-has_lines.false in
     let can : CanPause h tasks = can_pause h tasks ls read c.args.self.now it c.args.line.now c.requires.all
-    c.run_to.new.self run k
-    c.roster.ensures c.as_slice-2.result.now kept at reached in
+    c.run_to.new.self run
+    c.as_slice-2.result.now kept at reached in
     let fed : IsFed c.run_to.new.self.intake (head_in c.run_to.new.self.head) tasks =
     subst (λ (x : Resuming). IsFed x.intake (head_in x.head) tasks) (sym same)
     (subst (λ (x : Head). IsFed c.args.self.now.intake x tasks) (sym it.about.head) it.fed) in
@@ -150,12 +136,12 @@ returns-clause-answers g c = λ ls (h, tasks, read, it).
     let head : head_in c.run_to.new.self.head ≡ h = ap (λ (x : Resuming). head_in x.head) same ∙ it.about.head in (
       h,
       tasks,
-      is_whole h tasks ls read c.args.self.now it c.args.line.now c.requires.all c.run_to.new.self run k
-          c.roster.ensures c.as_slice-2.result.now kept at reached last.0 last.1,
+      is_whole h tasks ls read c.args.self.now it c.args.line.now c.requires.all c.run_to.new.self run
+          c.as_slice-2.result.now kept at reached last.0 last.1,
       head,
-      resumes h tasks ls read c.args.self.now it c.args.line.now c.requires.all c.run_to.new.self run k
-          c.roster.ensures c.as_slice-2.result.now kept at reached last.0 last.1
-          c.hand_ticks.new.intake run.served.listed
+      resumes h tasks ls read c.args.self.now it c.args.line.now c.requires.all c.run_to.new.self run
+          c.as_slice-2.result.now kept at reached last.0 last.1
+          c.hand_ticks.new.intake
           (subst (λ (x : Head). StandsFor c.hand_ticks.new.intake (handed_lines x tasks)) head
           (c.hand_ticks.ensures.stands tasks fed may)),
     )
@@ -164,21 +150,21 @@ pub returns-then-not-are_at-clause-jobs : goal.returns-then-not-are_at-clause-jo
 returns-then-not-are_at-clause-jobs g c = λ ls (h, tasks, read, it).
     let run : HasRun c.run_to.new.self h tasks c.args.self.now.head.mark =
     c.run_to.ensures.run h tasks it.about (run_so_far h tasks ls read c.args.self.now it) in
-    jobs_lines ls h tasks read c.args.line.now c.run_to.new.self.server.server.ready.jobs
+    jobs_lines ls h tasks read c.args.line.now c.run_to.new.self.server.ready.jobs
     (jobs_run c.run_to.new.self h tasks c.args.self.now.head.mark run)
 
 pub returns-then-not-has_lines-clause-jobs : goal.returns-then-not-has_lines-clause-jobs
 returns-then-not-has_lines-clause-jobs g c = λ ls (h, tasks, read, it).
     let run : HasRun c.run_to.new.self h tasks c.args.self.now.head.mark =
     c.run_to.ensures.run h tasks it.about (run_so_far h tasks ls read c.args.self.now it) in
-    jobs_lines ls h tasks read c.args.line.now c.run_to.new.self.server.server.ready.jobs
+    jobs_lines ls h tasks read c.args.line.now c.run_to.new.self.server.ready.jobs
     (jobs_run c.run_to.new.self h tasks c.args.self.now.head.mark run)
 
 pub returns-clause-jobs : goal.returns-clause-jobs
 returns-clause-jobs g c = λ ls (h, tasks, read, it).
     let run : HasRun c.run_to.new.self h tasks c.args.self.now.head.mark =
     c.run_to.ensures.run h tasks it.about (run_so_far h tasks ls read c.args.self.now it) in
-    jobs_lines ls h tasks read c.args.line.now c.run_to.new.self.server.server.ready.jobs
+    jobs_lines ls h tasks read c.args.line.now c.run_to.new.self.server.ready.jobs
     (jobs_run c.run_to.new.self h tasks c.args.self.now.head.mark run)
 
 pub overflow_add-bad : goal.overflow_add-bad
@@ -191,7 +177,7 @@ returns-then-ne-clause-answers g c = λ ls (h, tasks, read, it). other_refused h
 
 pub returns-then-ne-clause-jobs : goal.returns-then-ne-clause-jobs
 returns-then-ne-clause-jobs g c = λ ls it. jobs_stay c.args.self.now ls it c.args.line.now
-    c.args.self.now.server.server.ready.jobs (omega arith)
+    c.args.self.now.server.ready.jobs (omega arith)
 
 pub returns-then-ne-clause-count : goal.returns-then-ne-clause-count
 returns-then-ne-clause-count g c = λ start spent. spent

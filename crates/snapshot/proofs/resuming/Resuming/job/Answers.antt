@@ -55,7 +55,7 @@ admit-requires g c =
       h,
       tasks,
       same_about c.args.self.now _ h tasks refl refl it.about,
-      same_run c.args.self.now _ h tasks c.args.self.now.last refl refl refl
+      same_run c.args.self.now _ h tasks c.args.self.now.last refl refl refl refl
           (run_at h tasks ls read c.args.self.now it c.args.line.now more (task_in c.in-Some.state) spelled some.1),
       may_admit h tasks ls read c.args.self.now it c.args.line.now more
           (task_in c.in-Some.state) spelled some.1 c.in-Some-hand_job.job some.0,
@@ -74,7 +74,7 @@ returns-in-Ok-push-clause-answers g c = λ ls (h, tasks, read, it).
     let run : HasRunTowards c.admit.new.self h (tasks ++ task_in c.in-Some.state ∷ []) c.in-Some-hand_job.job.release =
     c.in-Ok.ensures.run h tasks (task_in c.in-Some.state)
     (same_about c.args.self.now _ h tasks refl refl it.about)
-    (same_run c.args.self.now _ h tasks c.args.self.now.last refl refl refl
+    (same_run c.args.self.now _ h tasks c.args.self.now.last refl refl refl refl
     (run_at h tasks ls read c.args.self.now it c.args.line.now more (task_in c.in-Some.state) spelled some.1))
     (may_admit h tasks ls read c.args.self.now it c.args.line.now more (task_in c.in-Some.state) spelled some.1
     c.in-Some-hand_job.job some.0) (sym some.0) number in
@@ -91,7 +91,7 @@ returns-in-Ok-push-clause-answers g c = λ ls (h, tasks, read, it).
           same)
           (subst (λ i. IsFed i h (tasks ++ task_in c.in-Some.state ∷ []))
           (sym (ap (λ (x : Resuming). x.intake) same)) some.2)
-          (same_run c.admit.new.self _ h (tasks ++ task_in c.in-Some.state ∷ []) _ refl refl refl
+          (same_run c.admit.new.self _ h (tasks ++ task_in c.in-Some.state ∷ []) _ refl refl refl refl
           (subst (λ (j : JobFacts). HasRunTowards c.admit.new.self h (tasks ++ task_in c.in-Some.state ∷ [])
           j.release) some.0 run)),
     )
@@ -139,11 +139,11 @@ returns-in-Err-push-clause-jobs g c = λ ls (h, tasks, read, it).
     let run : HasRunTowards c.admit.new.self h (tasks ++ task_in c.in-Some.state ∷ []) c.in-Some-hand_job.job.release =
     c.in-Ok.ensures.run h tasks (task_in c.in-Some.state)
     (same_about c.args.self.now _ h tasks refl refl it.about)
-    (same_run c.args.self.now _ h tasks c.args.self.now.last refl refl refl
+    (same_run c.args.self.now _ h tasks c.args.self.now.last refl refl refl refl
     (run_at h tasks ls read c.args.self.now it c.args.line.now more (task_in c.in-Some.state) spelled some.1))
     (may_admit h tasks ls read c.args.self.now it c.args.line.now more (task_in c.in-Some.state) spelled some.1
     c.in-Some-hand_job.job some.0) (sym some.0) number in
-    subst (λ reading. c.admit.new.self.server.server.ready.jobs ≤ jobs_read reading) (sym more_read.reads)
+    subst (λ reading. c.admit.new.self.server.ready.jobs ≤ jobs_read reading) (sym more_read.reads)
     (omega (
       arith,
       jobs_towards c.admit.new.self h (tasks ++ task_in c.in-Some.state ∷ [])
@@ -164,23 +164,23 @@ returns-then-state-self-clause-answers g c = λ ls it.
 
 pub returns-then-state-self-clause-jobs : goal.returns-then-state-self-clause-jobs
 returns-then-state-self-clause-jobs g c = λ ls it. jobs_stay c.args.self.now ls it c.args.line.now
-    c.args.self.now.server.server.ready.jobs (omega arith)
+    c.args.self.now.server.ready.jobs (omega arith)
 
 pub returns-in_default-hand_job-clause-jobs : goal.returns-in_default-hand_job-clause-jobs
 returns-in_default-hand_job-clause-jobs g c = λ ls it. jobs_stay c.args.self.now ls it c.args.line.now
-    c.args.self.now.server.server.ready.jobs (omega arith)
+    c.args.self.now.server.ready.jobs (omega arith)
 
 pub returns-in-Err-clause-jobs : goal.returns-in-Err-clause-jobs
 returns-in-Err-clause-jobs g c = λ ls it. jobs_left c.args.self.now ls it c.args.line.now
-    c.admit.new.self.server.server.ready.jobs (λ h tasks run. c.in-Err.ensures.err h tasks
-    (same_run c.args.self.now _ h tasks c.args.self.now.last refl refl refl run))
+    c.admit.new.self.server.ready.jobs (λ h tasks run. c.in-Err.ensures.err h tasks
+    (same_run c.args.self.now _ h tasks c.args.self.now.last refl refl refl refl run))
 
 pub overflow_add-bad : goal.overflow_add-bad
 overflow_add-bad g c = omega (arith, c.count-number.ensures, c.args.self.now.stances.ok.0)
 
 pub returns-in_default-clause-jobs : goal.returns-in_default-clause-jobs
 returns-in_default-clause-jobs g c = λ ls it. jobs_stay c.args.self.now ls it c.args.line.now
-    c.args.self.now.server.server.ready.jobs (omega arith)
+    c.args.self.now.server.ready.jobs (omega arith)
 
 pub returns-in_default-clause-count : goal.returns-in_default-clause-count
 returns-in_default-clause-count g c = λ start spent. spent
@@ -195,7 +195,7 @@ returns-then-state-number-clause-answers g c = λ ls it.
 
 pub returns-then-state-number-clause-jobs : goal.returns-then-state-number-clause-jobs
 returns-then-state-number-clause-jobs g c = λ ls it. jobs_stay c.args.self.now ls it c.args.line.now
-    c.args.self.now.server.server.ready.jobs (omega arith)
+    c.args.self.now.server.ready.jobs (omega arith)
 
 pub returns-then-state-number-clause-count : goal.returns-then-state-number-clause-count
 returns-then-state-number-clause-count g c = λ start spent. spent

@@ -5,16 +5,9 @@ use Rattle.dover_model.specs.declared.events.Task.{Task}
 use Rattle.dover_model.specs.declared.events.Version.{Version}
 use Rattle.dover_model.specs.Session.{may_finish_early}
 use Rattle.dover_model.proofs.lists.Members.{some_same}
-use Rattle.ready_server.specs.Roster.{Kept, runner_at}
 use Rattle.snapshot.specs.declared.resuming.Stance.{Stance}
 use Rattle.snapshot.specs.Kept.{early_behind, next_early}
 use Rattle.snapshot.proofs.resuming.Resuming.next_finish.Goals as goal
-
--- the job that runs in the roster that is kept
-runs : (held : Option Kept) (kept k : Kept) (at : ℕ) (r : Option Task) → held ≡ Some kept
-    → r ≡ runner_at kept.roll at → held ≡ Some k → runner_at k.roll at ≡ r
-runs held kept k at r is run same =
-    ap (λ (x : Kept). runner_at x.roll at) (some_same k kept (sym same ∙ is)) ∙ sym run
 
 module _ (version : Version) (stances : List Stance) (at : ℕ) (job : Task) where
   -- if jobs may not finish early, none does
@@ -29,36 +22,32 @@ module _ (version : Version) (stances : List Stance) (at : ℕ) (job : Task) whe
       ∙ ap (option_and_then (early_behind at job)) is
 
 pub returns-in_default : goal.returns-in_default
-returns-in_default c = λ k is.
+returns-in_default c =
     let self = c.args.self.now in
-    sym (ap (next_early self.head.version self.stances.items c.args.at) (runs self.server.roster c.roster.result.now k
-    c.args.at c.runner.result c.roster.ensures c.runner.ensures is ∙ c.in_default.is))
+    sym (ap (next_early self.head.version self.stances.items c.args.at) (sym c.runner.ensures ∙ c.in_default.is))
 
 pub returns-then-not-may_finish_early : goal.returns-then-not-may_finish_early
-returns-then-not-may_finish_early c = λ k is.
+returns-then-not-may_finish_early c =
     let self = c.args.self.now in
-    sym (ap (next_early self.head.version self.stances.items c.args.at) (runs self.server.roster c.roster.result.now k
-    c.args.at c.runner.result c.roster.ensures c.runner.ensures is ∙ c.in-Some.is)
+    sym (ap (next_early self.head.version self.stances.items c.args.at) (sym c.runner.ensures ∙ c.in-Some.is)
     ∙ never self.head.version self.stances.items c.args.at c.in-Some.job
     (sym c.may_finish_early.ensures ∙ c.if-not-may_finish_early.true))
 
 pub returns-in-None : goal.returns-in-None
-returns-in-None c = λ k is.
+returns-in-None c =
     let self = c.args.self.now in
-    sym (ap (next_early self.head.version self.stances.items c.args.at) (runs self.server.roster c.roster.result.now k
-    c.args.at c.runner.result c.roster.ensures c.runner.ensures is ∙ c.in-Some.is)
+    sym (ap (next_early self.head.version self.stances.items c.args.at) (sym c.runner.ensures ∙ c.in-Some.is)
     ∙ stored self.head.version self.stances.items c.args.at c.in-Some.job None
     (sym c.may_finish_early.ensures ∙ c.if-not-may_finish_early.false)
     (ap (λ xs. slice_get xs c.in-Some.job.number) (sym c.deref.ensures.value)
     ∙ slice_get_past c.deref.result.now c.in-Some.job.number c.in-None.ensures.lookup.3))
 
 pub returns-in-Some-get : goal.returns-in-Some-get
-returns-in-Some-get c = λ k is.
+returns-in-Some-get c =
     let self = c.args.self.now in
     let stance : Stance = c.in-Some-get.stance.now in
     c.early_behind.ensures
-    ∙ sym (ap (next_early self.head.version self.stances.items c.args.at) (runs self.server.roster c.roster.result.now k
-    c.args.at c.runner.result c.roster.ensures c.runner.ensures is ∙ c.in-Some.is)
+    ∙ sym (ap (next_early self.head.version self.stances.items c.args.at) (sym c.runner.ensures ∙ c.in-Some.is)
     ∙ stored self.head.version self.stances.items c.args.at c.in-Some.job (Some stance)
     (sym c.may_finish_early.ensures ∙ c.if-not-may_finish_early.false)
     (ap (λ xs. slice_get xs c.in-Some.job.number) (sym c.deref.ensures.value)

@@ -21,15 +21,15 @@ turn_to-requires-clause-run g c =
       r.0,
       r.1,
       same_about c.args.self.now _ r.0 r.1 refl refl r.2,
-      settled_there c.args.self.now r.0 r.1 r.2 c.args.from r.3 c.settle.new.server c.settle.ensures.rests
-          (omega (arith, c.requires.low, c.requires.known)) c.settle.ensures.roster,
+      settled_there c.args.self.now r.0 r.1 r.2 c.args.from r.3 c.settle.new.server c.settle.new.roster
+          c.settle.ensures.rests (omega (arith, c.requires.low, c.requires.known)),
     )
 
 pub returns-then-may_finish_early-clause-run : goal.returns-then-may_finish_early-clause-run
 returns-then-may_finish_early-clause-run g c = λ h tasks about run. c.turn_to.ensures.run h tasks
     (same_about c.args.self.now _ h tasks refl refl about)
-    (settled_there c.args.self.now h tasks about c.args.from run c.settle.new.server c.settle.ensures.rests
-    (omega (arith, c.requires.low, c.requires.known)) c.settle.ensures.roster)
+    (settled_there c.args.self.now h tasks about c.args.from run c.settle.new.server c.settle.new.roster c.settle.ensures.rests
+    (omega (arith, c.requires.low, c.requires.known)))
 
 pub returns-then-may_finish_early-clause-paid : goal.returns-then-may_finish_early-clause-paid
 returns-then-may_finish_early-clause-paid g c = λ start paid. c.turn_to.ensures.paid start
@@ -38,8 +38,8 @@ returns-then-may_finish_early-clause-paid g c = λ start paid. c.turn_to.ensures
 pub returns-else-may_finish_early-clause-run : goal.returns-else-may_finish_early-clause-run
 returns-else-may_finish_early-clause-run g c = λ h tasks about run. plain_there c.args.self.now h tasks about
     (sym c.may_finish_early.ensures ∙ c.if-may_finish_early.false) c.args.from c.args.mark run c.requires.low
-    c.settle-else-may_finish_early.new.server c.settle-else-may_finish_early.ensures.rests c.requires.known
-    c.settle-else-may_finish_early.ensures.roster
+    c.settle-else-may_finish_early.new.server c.settle-else-may_finish_early.new.roster
+    c.settle-else-may_finish_early.ensures.rests c.requires.known
 
 pub returns-then-may_finish_early-clause-same : goal.returns-then-may_finish_early-clause-same
 returns-then-may_finish_early-clause-same g c = c.turn_to.ensures.same

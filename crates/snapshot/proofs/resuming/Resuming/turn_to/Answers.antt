@@ -4,10 +4,6 @@ use Rattle.snapshot.specs.declared.resuming.Resuming.{Resuming}
 use Rattle.snapshot.proofs.Turning.{same_about, goes_behind, serves_on, nears}
 use Rattle.snapshot.proofs.resuming.Resuming.turn_to.Goals as goal
 
-pub next_mark-at-requires-clause-listed : goal.next_mark-at-requires-clause-listed
-next_mark-at-requires-clause-listed g c =
-    let r = c.requires.run in (c.loop-at.invariant.on r.0 r.1 r.2 r.3).served.listed
-
 pub settle-requires : goal.settle-requires
 settle-requires g c =
     let r = c.requires.run in
@@ -33,7 +29,7 @@ finish_due-requires-clause-near g c =
         counted = run.counted;
         near = nears c.loop-at.self r.0 r.1 about c.loop-at.at c.next_mark-at.result run c.next_mark-at.ensures.after
             (omega (arith, c.next_mark-at.ensures.no_later, c.requires.known)) c.next_mark-at.ensures.quiet
-            c.next_mark-at.ensures.ahead c.settle.new.server c.settle.ensures.rests c.settle.ensures.roster;
+            c.next_mark-at.ensures.ahead c.settle.new.server c.settle.new.roster c.settle.ensures.rests;
       },
     )
 
@@ -60,12 +56,13 @@ loop-at-preserved g c = record {
         counted = run.counted;
         near = nears c.loop-at.self h tasks about c.loop-at.at c.next_mark-at.result run c.next_mark-at.ensures.after
             (omega (arith, c.next_mark-at.ensures.no_later, c.requires.known)) c.next_mark-at.ensures.quiet
-            c.next_mark-at.ensures.ahead c.settle.new.server c.settle.ensures.rests c.settle.ensures.roster;
+            c.next_mark-at.ensures.ahead c.settle.new.server c.settle.new.roster c.settle.ensures.rests;
       });
   low = c.next_mark-at.ensures.no_later;
   same = c.finish_due.ensures.same
       ∙ ap (λ (x : Resuming). record x {
         server = c.finish_due.new.self.server;
+        roster = c.finish_due.new.self.roster;
         handed = c.finish_due.new.self.handed;
         last = c.finish_due.new.self.last;
       }) c.loop-at.invariant.same;

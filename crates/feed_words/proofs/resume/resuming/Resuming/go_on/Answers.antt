@@ -25,5 +25,5 @@ returns-clause-goes g c o ls is whole =
     let reads = ap (λ (o : Opening). o.reader) (sym same) ∙ sym c.replace-reader.ensures.value in
     let gives = c.take-server.ensures.gives ls (subst (λ r. IsWholeFor r ls) reads whole) in
     subst (λ s. IsServedOn s o.reader ls) (sym c.replace.ensures.after)
-    (λ call now may text spent listed. c.resumed-serving.ensures call now may (gives.each call.feed may text)
-    (c.take-server.ensures.count call.start now (subst (λ r. HasSpentOn r call.start now) reads spent)) listed)
+    (λ call now may text spent. c.resumed-pausing.ensures call now may (gives.each call.feed may text)
+    (c.take-server.ensures.count call.start now (subst (λ r. HasSpentOn r call.start now) reads spent)))

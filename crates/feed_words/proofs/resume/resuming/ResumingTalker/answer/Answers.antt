@@ -1,7 +1,6 @@
 use Rattle.std.proofs.Common.{◌≤◌, sym, ◌∙◌, subst, refl, ap, ◌+◌, arith}
 use Rattle.dialogue.specs.Turns.{AnswersBy}
 use Rattle.dover_port.specs.declared.status.Status.TheVariants as status
-use Rattle.feed_words.specs.serve.Keeping as serve
 use Rattle.feed_words.specs.serve.Keeping.{serve_talk}
 use Rattle.snapshot.specs.Reading.{Refused}
 use Rattle.feed_words.specs.resume.Record.{refused_text}
@@ -39,68 +38,56 @@ pub answer-requires-clause-ready : goal.answer-requires-clause-ready
 answer-requires-clause-ready g c =
     let a = c.requires.ready.0 in
     let x = c.requires.ready.1 in
-    let it = at_serving a c.args.self.stage c.in-Serving.serving c.args.meter.now x c.in-Serving.is
+    let it = at_serving a c.args.self.stage c.in-Serving.pausing c.args.meter.now x c.in-Serving.is
     c.requires.ready.2.1 in
     rw c.in-Serving.is (
       past_call a x _ it,
       past_bytes a x _ it,
-      it.holds,
-      sym (past_goes a x _ it)
-          ∙ c.requires.ready.3,
+      it.holds.ready,
+      sym (past_goes a x _ it) ∙ c.requires.ready.3,
     )
 
 pub returns-in-Refuse-clause-answers : goal.returns-in-Refuse-clause-answers
 returns-in-Refuse-clause-answers g c = λ a x at over.
-    let it = at_serving a c.args.self.stage c.in-Serving.serving c.args.meter.now x c.in-Serving.is at.1 in
+    let it = at_serving a c.args.self.stage c.in-Serving.pausing c.args.meter.now x c.in-Serving.is at.1 in
     past_answers a x _ it c.args.ended _ _ _ c.answer.result
     (subst (λ e. AnswersBy (serve_talk e (past_call a x _ it).feed) (past_bytes a x _ it) c.args.ended
     (g.P.Port.moves c.args.port.now) (g.P.Port.moves c.answer.new.port) c.answer.new.out c.answer.result)
     (sym c.in-Refuse.is ∙ at.0)
-    ((rw c.in-Serving.is at c.answer.ensures.answers) (past_call a x _ it) (past_bytes a x _ it) it.holds
+    ((rw c.in-Serving.is at c.answer.ensures.answers) (past_call a x _ it) (past_bytes a x _ it) it.holds.ready
     (sym (past_goes a x _ it) ∙ over)))
 
 pub returns-in-Refuse-clause-spent : goal.returns-in-Refuse-clause-spent
 returns-in-Refuse-clause-spent g c = λ a x at.
-    let it = at_serving a c.args.self.stage c.in-Serving.serving c.args.meter.now x c.in-Serving.is at.1 in
+    let it = at_serving a c.args.self.stage c.in-Serving.pausing c.args.meter.now x c.in-Serving.is at.1 in
     past_spent a x _ it _
-    ((rw c.in-Serving.is at c.answer.ensures.spent) (past_call a x _ it) (past_bytes a x _ it) it.holds)
+    ((rw c.in-Serving.is at c.answer.ensures.spent) (past_call a x _ it) (past_bytes a x _ it) it.holds.ready)
 
 pub answer-requires-in-Pause-clause-ready : goal.answer-requires-in-Pause-clause-ready
 answer-requires-in-Pause-clause-ready g c =
     let a = c.requires.ready.0 in
     let x = c.requires.ready.1 in
-    let it = at_serving a c.args.self.stage c.in-Serving.serving c.args.meter.now x c.in-Serving.is
-    c.requires.ready.2.1 in (
-      past_call a x _ it,
-      past_bytes a x _ it,
-      subst (λ s. serve.IsReady (past_call a x _ it) s.feed c.args.meter.now
-          (past_bytes a x _ it))
-          (sym (rw c.in-Serving.is at c.new.ensures)) it.holds,
-      sym (past_goes a x _ it) ∙ c.requires.ready.3,
-    )
+    let it = at_serving a c.args.self.stage c.in-Serving.pausing c.args.meter.now x c.in-Serving.is
+    c.requires.ready.2.1 in
+    rw c.in-Serving.is
+    (past_call a x _ it, past_bytes a x _ it, it.holds, sym (past_goes a x _ it) ∙ c.requires.ready.3)
 
 pub returns-in-Pause-clause-answers : goal.returns-in-Pause-clause-answers
 returns-in-Pause-clause-answers g c = λ a x at over.
-    let it = at_serving a c.args.self.stage c.in-Serving.serving c.args.meter.now x c.in-Serving.is at.1 in
+    let it = at_serving a c.args.self.stage c.in-Serving.pausing c.args.meter.now x c.in-Serving.is at.1 in
     past_answers a x _ it c.args.ended _ _ _ c.answer-in-Pause.result
     (subst (λ e. AnswersBy (serve_talk e (past_call a x _ it).feed) (past_bytes a x _ it) c.args.ended
     (g.P.Port.moves c.args.port.now) (g.P.Port.moves c.answer-in-Pause.new.port) c.answer-in-Pause.new.out
     c.answer-in-Pause.result)
     (sym c.in-Pause.is ∙ at.0)
-    (c.answer-in-Pause.ensures.answers (past_call a x _ it) (past_bytes a x _ it)
-    (subst (λ s. serve.IsReady (past_call a x _ it) s.feed c.args.meter.now
-    (past_bytes a x _ it))
-    (sym (rw c.in-Serving.is at c.new.ensures)) it.holds)
+    ((rw c.in-Serving.is at c.answer-in-Pause.ensures.answers) (past_call a x _ it) (past_bytes a x _ it) it.holds
     (sym (past_goes a x _ it) ∙ over)))
 
 pub returns-in-Pause-clause-spent : goal.returns-in-Pause-clause-spent
 returns-in-Pause-clause-spent g c = λ a x at.
-    let it = at_serving a c.args.self.stage c.in-Serving.serving c.args.meter.now x c.in-Serving.is at.1 in
+    let it = at_serving a c.args.self.stage c.in-Serving.pausing c.args.meter.now x c.in-Serving.is at.1 in
     past_spent a x _ it _
-    (c.answer-in-Pause.ensures.spent (past_call a x _ it) (past_bytes a x _ it)
-    (subst (λ s. serve.IsReady (past_call a x _ it) s.feed c.args.meter.now
-    (past_bytes a x _ it))
-    (sym (rw c.in-Serving.is at c.new.ensures)) it.holds))
+    ((rw c.in-Serving.is at c.answer-in-Pause.ensures.spent) (past_call a x _ it) (past_bytes a x _ it) it.holds)
 
 pub returns-in-Opening-clause-cause : goal.returns-in-Opening-clause-cause
 returns-in-Opening-clause-cause g c = c.refuse_snapshot.ensures.cause

@@ -29,6 +29,6 @@ pub returns-in-Serving : goal.returns-in-Serving
 returns-in-Serving g c = record {
   gives = λ a x rest at.
       let it = subst (λ s. IsGiving a s c.args.meter.now x rest) c.in-Serving.is at.1 in
-      past_gives a x _ it _ at.0 _ _ rest _ _
+      past_gives a x _ it _ at.0 _ _ _ rest _ _
       (c.next_part.ensures.gives (past_call a x _ it) (past_bytes a x _ it) rest it.holds);
 }

@@ -90,7 +90,7 @@ pub returns-in-Serving : goal.returns-in-Serving
 returns-in-Serving g c = record {
   takes = λ a x at goes.
       let it = subst (λ s. IsReady a s c.args.meter.now x) c.in-Serving.is at.1 in
-      past_takes a x _ it c.args.piece.now _ _ _ at.0 c.take-in-Serving.result
+      past_takes a x _ it c.args.piece.now _ _ _ _ at.0 c.take-in-Serving.result
       (c.take-in-Serving.ensures.takes (past_call a x _ it) (past_bytes a x _ it) it.holds
       (sym (past_goes a x _ it) ∙ goes));
 }

@@ -1,5 +1,72 @@
-use Rattle.feed_words.specs.serve.Keeping.{with_roster}
+use Rattle.std.proofs.Common.{◌≡◌, ◌++◌, ◌∷◌, [], ℕ, ap, sym, ◌∙◌, map, refl, subst, Some, None, append_assoc}
+use Rattle.dover_model.specs.Common.{lines_of}
+use Rattle.event_feed.specs.DueLines.{out_text}
+use Rattle.lane_server.specs.Lane.{AdmitsBy}
+use Rattle.feed_words.proofs.serve.Listing.{few_read, admits_there, one_listed, none_left}
 use Rattle.feed_words.proofs.serve.pausing.PausingTalker.next_part.Goals as goal
 
-pub returns : goal.returns
-returns g c = record { gives = λ a x rest at. c.next_part.ensures.gives (with_roster a) x rest at }
+pub next_out-requires : goal.next_out-requires
+next_out-requires g c =
+    let (a, x, rest, at) = c.requires in (a.feed ++ x, at.giving.left, at.giving.stands)
+
+pub read_into-requires-clause-few : goal.read_into-requires-clause-few
+read_into-requires-clause-few g c = λ on.
+    let (a, x, rest, at) = c.requires in
+    let given = c.in-Some.ensures.gives (a.feed ++ x) at.giving.left at.giving.stands in
+    let goes = sym ((rw c.lane.ensures at c.goes_on-goes_on.ensures) (lines_of (a.feed ++ x)) given.0 given.2.lane) ∙ on in
+    few_read c.args.self.now.roster (a.feed ++ x) goes at.given at.giving.left at.due (at.lists goes).roll
+
+pub read_into-requires-clause-room : goal.read_into-requires-clause-room
+read_into-requires-clause-room g c n job on is =
+    let (a, x, rest, at) = c.requires in
+    let given = c.in-Some.ensures.gives (a.feed ++ x) at.giving.left at.giving.stands in
+    let goes = sym ((rw c.lane.ensures at c.goes_on-goes_on.ensures) (lines_of (a.feed ++ x)) given.0 given.2.lane) ∙ on in
+    (at.lists goes).room (admits_there c.args.self.now.serving.feed.lane.work c.next_out.new.self.lane.work
+    c.in-Some.out n job is
+    (subst (λ b. AdmitsBy b c.args.self.now.serving.feed.lane.work c.next_out.new.self.lane.work (Some c.in-Some.out))
+    (at.giving.stands.lane.opened ∙ goes) c.in-Some.ensures.admits))
+
+pub write_next-requires : goal.write_next-requires
+write_next-requires g c =
+    let (a, x, rest, at) = c.requires in (c.in-Some.ensures.gives (a.feed ++ x) at.giving.left at.giving.stands).3
+
+pub returns-in-Some : goal.returns-in-Some
+returns-in-Some g c = record {
+  gives = λ a x rest at.
+      let given = c.in-Some.ensures.gives (a.feed ++ x) at.giving.left at.giving.stands in (
+        map (λ line. line ++ 10 ∷ []) given.0,
+        at.giving.parts_are ∙ ap (map (λ line. line ++ 10 ∷ [])) given.1
+            ∙ ap (λ part. part ∷ map (λ line. line ++ 10 ∷ []) given.0) (sym c.write_next.ensures.text),
+        record {
+          giving = record {
+            left = given.0;
+            parts_are = refl;
+            stands = given.2;
+            paid = c.in-Some.ensures.paid a.start at.giving.paid;
+          };
+          given = at.given ++ out_text c.in-Some.out ∷ [];
+          due = at.due ∙ ap (λ ls. at.given ++ ls) given.1
+              ∙ sym (append_assoc at.given (out_text c.in-Some.out ∷ []) given.0);
+          lists = λ goes.
+              one_listed c.args.self.now.roster c.read_into.new.roster c.args.self.now.serving.feed.lane.work
+              c.next_out.new.self.lane.work at.given (at.lists goes) c.read_into.ensures.room c.in-Some.out given.3
+              (c.read_into.ensures.roll ((rw c.lane.ensures at c.goes_on-goes_on.ensures) (lines_of (a.feed ++ x)) given.0 given.2.lane ∙ goes))
+              (subst (λ b. AdmitsBy b c.args.self.now.serving.feed.lane.work c.next_out.new.self.lane.work
+              (Some c.in-Some.out)) (at.giving.stands.lane.opened ∙ goes) c.in-Some.ensures.admits);
+        },
+      );
+}
+
+pub returns-in-None : goal.returns-in-None
+returns-in-None g c = record {
+  gives = λ a x rest at.
+      let given = c.in-None.ensures.gives (a.feed ++ x) at.giving.left at.giving.stands in (
+        at.giving.parts_are ∙ ap (map (λ line. line ++ 10 ∷ [])) given.0,
+        record {
+          ready = record { rests = given.1; paid = c.in-None.ensures.paid a.start at.giving.paid };
+          lists = λ goes. none_left at.given at.giving.left _ given.0 at.due (at.lists goes)
+              (subst (λ b. AdmitsBy b c.args.self.now.serving.feed.lane.work c.next_out.new.self.lane.work None)
+              (at.giving.stands.lane.opened ∙ goes) c.in-None.ensures.admits);
+        },
+      );
+}

@@ -1,5 +1,41 @@
-use Rattle.feed_words.specs.serve.Keeping.{with_roster}
+use Rattle.std.proofs.Common.{◌++◌, [], Err}
+use Rattle.dover_model.specs.Lines.{lines_of}
+use Rattle.feed_words.specs.declared.serve.at_end.AtEnd.TheVariants.{Pause}
+use Rattle.feed_words.proofs.serve.Talking.{taken, taken_listed, lacks_room}
 use Rattle.feed_words.proofs.serve.pausing.PausingTalker.take.Goals as goal
 
-pub returns : goal.returns
-returns g c = record { takes = λ a x at goes. c.take.ensures.takes (with_roster a) x at goes }
+pub take-requires-clause-rests : goal.take-requires-clause-rests
+take-requires-clause-rests g c =
+    let (a, x, at, goes) = c.requires.stands in (a.feed ++ x, at.ready.rests, goes)
+
+pub returns-in-Ok-make_room : goal.returns-in-Ok-make_room
+returns-in-Ok-make_room g c = record {
+  takes = λ a x at goes.
+      let rests = at.ready.rests in
+      taken_listed a c.take.new.self c.args._meter.now x c.args.piece.now c.in-Ok.count
+      (c.in-Ok.ensures.takes (a.feed ++ x) rests goes) c.args.self.now.roster c.make_room.new.roster
+      (c.in-Ok.ensures.paid (a.feed ++ x) a.start _ rests at.ready.paid)
+      (c.laws.ensures.few c.args.self.now.serving.feed.lane (lines_of (a.feed ++ x)) [] a.start _ rests.lane.stands
+      at.ready.paid) (at.lists goes).roll c.in-Ok-make_room.ensures.same
+      (rw c.lane.ensures at c.in-Ok-make_room.ensures.room);
+}
+
+pub returns-in-Err : goal.returns-in-Err
+returns-in-Err g c = record {
+  takes = λ a x at goes.
+      let rests = at.ready.rests in
+      taken a c.take.new.self c.args._meter.now x Pause c.args.piece.now (Err c.in-Err.error)
+      (c.in-Err.ensures.takes (a.feed ++ x) rests goes) tt
+      (c.laws.ensures.few c.args.self.now.serving.feed.lane (lines_of (a.feed ++ x)) [] a.start _ rests.lane.stands
+      at.ready.paid);
+}
+
+pub returns-in-Err-make_room : goal.returns-in-Err-make_room
+returns-in-Err-make_room g c = record {
+  takes = λ a x at goes.
+      let rests = at.ready.rests in
+      lacks_room a c.take.new.self c.args._meter.now x c.args.piece.now c.in-Ok.count
+      (c.in-Ok.ensures.takes (a.feed ++ x) rests goes) c.in-Err-make_room.error
+      (c.laws.ensures.few c.args.self.now.serving.feed.lane (lines_of (a.feed ++ x)) [] a.start _ rests.lane.stands
+      at.ready.paid) (rw c.lane.ensures at c.in-Err-make_room.ensures.asks);
+}

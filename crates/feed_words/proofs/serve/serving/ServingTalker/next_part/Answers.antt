@@ -22,7 +22,6 @@ returns-in-Some g c = record {
           parts_are = refl;
           stands = given.2;
           paid = c.in-Some.ensures.paid a.start at.paid;
-          roster = c.in-Some.ensures.roster a.listed at.roster;
         },
       );
 }
@@ -35,7 +34,6 @@ returns-in-None g c = record {
         record {
           rests = given.1;
           paid = c.in-None.ensures.paid a.start at.paid;
-          roster = c.in-None.ensures.roster a.listed at.roster;
         },
       );
 }

@@ -1,0 +1,177 @@
+-- A roster that is kept from the lines that are given for a feed lists its jobs.
+use Rattle.std.proofs.Common.{◌≡◌, ◌<◌, ◌-◌, ◌^◌, ℕ, List, [], ◌∷◌, ◌++◌, length, map, max, take, drop, codes, decimal, refl, sym}
+use Rattle.std.proofs.Common.{ap, ◌∙◌, subst, Option, Some, None, true, false, filter_map, option_and_then, arith}
+use Rattle.std.proofs.Common.{take-append-drop}
+use Rattle.std.proofs.lemmas.List.{append-nil, map-append}
+use Rattle.std.proofs.lemmas.List.Elements.{filter_map-append}
+use Rattle.std.specs.List.{AllByRecursion, cons_option}
+use Rattle.std.specs.Option.{option_or}
+use Rattle.dover_model.specs.declared.events.Event.{Event}
+use Rattle.dover_model.specs.declared.events.Event.TheVariants.{Release, Run, Preempt, Take, Complete, Abandon, End}
+use Rattle.dover_model.specs.declared.horizon.Horizon.TheVariants.{Mark}
+use Rattle.dover_model.specs.JobFacts.{JobFacts}
+use Rattle.dover_model.specs.Common.{AreShort, job_numbers, step_numbers, text_of, with_numbers, Session, instance_of}
+use Rattle.dover_model.specs.Common.{IsValid, settled, printed, Begins, due_lines, account, is_open, texts_among, Placed}
+use Rattle.dover_model.specs.Common.{places_of, put_in, Printed, Refuses, text_of_line}
+use Rattle.dover_model.proofs.sessions.Accounts.{account_kept}
+use Rattle.dover_model.proofs.settled.Horizons.{due_begins}
+use Rattle.dover_model.proofs.texts.Fields.{HasNoSpace, fields_of-line_of, decimals-HasNoSpace, numerals-decimals}
+use Rattle.dover_model.proofs.traces.ShortNumbers.{AreAllShort, printed_short}
+use Rattle.dover_model.proofs.valid.Valid.{all_front}
+use Rattle.event_feed.specs.DueLines.{out_text, HasNumerals}
+use Rattle.event_feed.specs.declared.due_line.DueLine.{DueLine}
+use Rattle.event_feed.specs.declared.due_line.DueLine.TheVariants.{Step}
+use Rattle.lane_server.specs.Lane.{IsAdmitting, AdmitsBy}
+use Rattle.lane_server.specs.declared.lane.Work.{Work}
+use Rattle.lane_server.proofs.Adding.{due_open, holds_of, open_stands}
+use Rattle.ready_server.specs.Roster.{Kept, Roll, with_event, roll_of, IsRollOf, HasLine}
+use Rattle.ready_server.proofs.RollSettled.{takes_low}
+use Rattle.ready_server.proofs.Rostered.{more_read, line_left}
+use Rattle.feed_words.specs.serve.Listing.{of_two, of_three, release_of, end_of, step_of_fields, step_of_text, steps_in}
+use Rattle.feed_words.specs.serve.Listing.{with_line, Lists}
+
+-- ---- the steps among lines
+
+-- the line of a word and numbers spells what its fields spell
+cut : (word ns : List ℕ) → HasNoSpace word → AreShort ns
+    → step_of_text (with_numbers word ns) ≡ step_of_fields (word ∷ map decimal ns)
+cut word ns none short =
+    ap step_of_fields (fields_of-line_of word (map decimal ns) none (decimals-HasNoSpace ns short))
+
+-- the line of a step spells it
+step_back : (e : Event) → AreShort (step_numbers e) → step_of_text (text_of e) ≡ Some e
+step_back (Release n j) short = cut (codes "job") (n ∷ job_numbers j) refl short
+    ∙ ap (λ o. option_or (option_and_then release_of o) None) (numerals-decimals (n ∷ job_numbers j) short)
+step_back (Run at n) short = cut (codes "run") (at ∷ n ∷ []) refl short
+    ∙ ap (λ o. option_or (option_and_then (of_two Run) o) None) (numerals-decimals (at ∷ n ∷ []) short)
+step_back (Preempt at stops starts) short = cut (codes "preempt") (at ∷ stops ∷ starts ∷ []) refl short
+    ∙ ap (λ o. option_or (option_and_then (of_three Preempt) o) None)
+    (numerals-decimals (at ∷ stops ∷ starts ∷ []) short)
+step_back (Take at stops starts) short = cut (codes "take") (at ∷ stops ∷ starts ∷ []) refl short
+    ∙ ap (λ o. option_or (option_and_then (of_three Take) o) None)
+    (numerals-decimals (at ∷ stops ∷ starts ∷ []) short)
+step_back (Complete at n) short = cut (codes "complete") (at ∷ n ∷ []) refl short
+    ∙ ap (λ o. option_or (option_and_then (of_two Complete) o) None) (numerals-decimals (at ∷ n ∷ []) short)
+step_back (Abandon at n) short = cut (codes "abandon") (at ∷ n ∷ []) refl short
+    ∙ ap (λ o. option_or (option_and_then (of_two Abandon) o) None) (numerals-decimals (at ∷ n ∷ []) short)
+step_back (End value) short = cut (codes "end") (value ∷ []) refl short
+    ∙ ap (option_and_then end_of) (numerals-decimals (value ∷ []) short)
+
+-- the lines of these steps
+abbrev lines_of_steps : List Event → List (List ℕ)
+lines_of_steps es = map text_of_line (map Printed es)
+
+steps_back : (es : List Event) → AreAllShort es → steps_in (lines_of_steps es) ≡ es
+steps_back [] short = refl
+steps_back (e ∷ es) short = ap (λ o. cons_option o (steps_in (lines_of_steps es))) (step_back e short.0)
+    ∙ ap (λ ys. e ∷ ys) (steps_back es short.1)
+
+-- those of steps behind others
+behind_steps : (es fs : List Event)
+    → steps_in (lines_of_steps (es ++ fs)) ≡ steps_in (lines_of_steps es) ++ steps_in (lines_of_steps fs)
+behind_steps es fs = ap (λ ls. steps_in (map text_of_line ls)) (map-append Printed es fs)
+    ∙ ap steps_in (map-append text_of_line (map Printed es) (map Printed fs))
+    ∙ filter_map-append step_of_text (lines_of_steps es) (lines_of_steps fs)
+
+-- refused lines among them spell none
+put_back : (ps : List Placed) (n : ℕ) (es : List Event)
+    → steps_in (map text_of_line (put_in ps n es)) ≡ steps_in (lines_of_steps es)
+put_back [] n es = refl
+put_back (p ∷ ps) n es =
+    let front : List Event = take (p.place - n) es in
+    let rest : List Event = drop (p.place - n) es in
+    ap steps_in (map-append text_of_line (map Printed front) (Refuses p.refused ∷ put_in ps (max n p.place) rest))
+    ∙ filter_map-append step_of_text (lines_of_steps front)
+    (map text_of_line (Refuses p.refused ∷ put_in ps (max n p.place) rest))
+    ∙ ap (λ ys. steps_in (lines_of_steps front) ++ ys) (put_back ps (max n p.place) rest)
+    ∙ sym (behind_steps front rest)
+    ∙ ap (λ xs. steps_in (lines_of_steps xs)) (take-append-drop (p.place - n) es)
+
+-- ---- a feed that goes on
+
+module _ (y : List ℕ) (goes : is_open (account y) ≡ true) (S : Session) (there : (account y).session ≡ Some S) where
+  valid : IsValid (instance_of S)
+  valid = (holds_of (account y) S (account_kept y) (open_stands (account y) goes) there).reads.valid
+
+  -- the lines that are due for it spell what is settled
+  pub settled_back : steps_in (due_lines (account y)) ≡ settled (instance_of S) (account y).mark
+  settled_back =
+      let begins : Begins (settled (instance_of S) (account y).mark) (printed (instance_of S)) =
+      due_begins (instance_of S) (Mark (account y).mark) valid in
+      ap steps_in (due_open (account y) S there (open_stands (account y) goes))
+      ∙ put_back (places_of S) 0 (settled (instance_of S) (account y).mark)
+      ∙ steps_back (settled (instance_of S) (account y).mark)
+      (all_front (λ e. AreShort (step_numbers e)) (settled (instance_of S) (account y).mark) begins.0
+      (subst AreAllShort begins.1 (printed_short (instance_of S) valid)))
+
+-- there were few takes among lines that are due
+few_listed : (y : List ℕ) → is_open (account y) ≡ true → (given left : List (List ℕ))
+    → due_lines (account y) ≡ given ++ left → (roll_of (steps_in given)).takes < 2 ^ 64 - 1
+few_listed y goes given left due = by (account y).session refl where
+  all : steps_in (due_lines (account y)) ≡ steps_in given ++ steps_in left
+  all = ap steps_in due ∙ filter_map-append step_of_text given left
+
+  by : (o : Option Session) → (account y).session ≡ o → (roll_of (steps_in given)).takes < 2 ^ 64 - 1
+  by None none = few (front given (sym due ∙ nothing)) where
+    nothing : due_lines (account y) ≡ []
+    nothing = subst (λ o. due_lines (record (account y) { session = o }) ≡ []) (sym none)
+        (subst (λ s. due_lines (record (account y) { session = None; standing = s }) ≡ [])
+        (sym (open_stands (account y) goes)) refl)
+
+    front : (xs : List (List ℕ)) → xs ++ left ≡ [] → xs ≡ []
+    front [] e = refl
+    front (x ∷ xs) e = absurd (let clash : x ∷ (xs ++ left) ≡ [] = e in cc)
+
+    few : given ≡ [] → (roll_of (steps_in given)).takes < 2 ^ 64 - 1
+    few is = subst (λ xs. (roll_of (steps_in xs)).takes < 2 ^ 64 - 1) (sym is) (omega arith)
+  by (Some S) there = takes_low (instance_of S) (Mark (account y).mark) (steps_in given) (valid y goes S there)
+      (steps_in left, sym (settled_back y goes S there) ∙ all)
+
+-- ---- a line that is given
+
+module _ (k l : Kept) (was now : Work) (lines : List (List ℕ)) (it : Lists k was lines) (same : l.room ≡ k.room) where
+  -- the room that there is
+  room_left : (e : Event) → l.roll ≡ with_event k.roll e → AdmitsBy true was now (Some (Step e)) → IsAdmitting now
+      → HasLine l
+  room_left (Release n job) is admits here = absurd ((admits refl).1 here)
+  room_left e is admits here = line_left k l e (λ n job clash. absurd (let no : e ≡ Release n job = clash in cc)) is
+      same (it.room (admits here))
+
+  same_room : l.roll ≡ k.roll → HasLine k → HasLine l
+  same_room is room = omega (arith, ap (λ (p : Roll). length p.jobs) is, same, room)
+
+  none_more : (t : List ℕ) → step_of_text t ≡ None → l.roll ≡ k.roll → IsRollOf (steps_in (lines ++ t ∷ [])) l
+  none_more t none is = is ∙ it.roll ∙ ap roll_of (sym (filter_map-append step_of_text lines (t ∷ [])
+      ∙ ap (λ o. steps_in lines ++ cons_option o []) none ∙ append-nil (steps_in lines)))
+
+  -- with the line, the roster lists the lines
+  pub one_listed : (out : DueLine) → HasNumerals out → l.roll ≡ with_line k.roll out
+      → AdmitsBy true was now (Some out) → Lists l now (lines ++ out_text out ∷ [])
+  one_listed (Step e) short is admits = record {
+    roll = more_read k l (steps_in lines) e it.roll is
+        ∙ ap roll_of (sym (filter_map-append step_of_text lines (text_of e ∷ [])
+        ∙ ap (λ o. steps_in lines ++ cons_option o []) (step_back e short)));
+    room = room_left e is admits;
+  }
+  one_listed out short is admits =
+      record { roll = none_more (out_text out) refl is; room = λ here. same_room is (it.room (admits here)) }
+
+-- where all was given, the roster lists what is due
+pub none_left : {k : Kept} {was now : Work} (given left all : List (List ℕ)) → left ≡ [] → all ≡ given ++ left
+    → Lists k was given → AdmitsBy true was now None → Lists k now all
+none_left {k = k} given left all none due it admits = record {
+  roll = subst (λ ls. IsRollOf (steps_in ls) k)
+      (sym (due ∙ ap (λ ls. given ++ ls) none ∙ append-nil given)) it.roll;
+  room = λ here. it.room (admits here);
+}
+
+-- a release is given only where there is room for its job
+pub admits_there : (was now : Work) (out : DueLine) (n : ℕ) (job : JobFacts) → out ≡ Step (Release n job)
+    → AdmitsBy true was now (Some out) → IsAdmitting was
+admits_there was now out n job is admits = (subst (λ o. AdmitsBy true was now (Some o)) is admits refl).0
+
+-- there were few takes
+pub few_read : (k : Kept) (y : List ℕ) → is_open (account y) ≡ true → (given left : List (List ℕ))
+    → due_lines (account y) ≡ given ++ left → IsRollOf (steps_in given) k → k.roll.takes < 2 ^ 64 - 1
+few_read k y goes given left due it =
+    subst (λ (p : Roll). p.takes < 2 ^ 64 - 1) (sym it) (few_listed y goes given left due)
