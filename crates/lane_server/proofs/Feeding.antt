@@ -1,6 +1,14 @@
 -- What bytes of a feed hand to its lane, and what is left to give then.
 use Rattle.std.proofs.Common.{Bool, ◌≡◌, ℕ, List, [], ◌∷◌, ◌++◌, sym, ap, ◌∙◌, subst, refl, true, false, cond, Some}
-use Rattle.std.proofs.Common.{Result, Ok, Err, append-nil, OnOk, OnErr, None, length, option_map}
+use Rattle.std.proofs.Common.{Result, Ok, Err, append-nil, OnOk, OnErr, None, length, option_map, ◌≤◌, ◌+◌, Option}
+use Rattle.std.proofs.Common.{arith, length-append}
+use Rattle.std.proofs.lemmas.List.Elements.{filter_map-append}
+use Rattle.std.specs.List.{cons_option}
+use Rattle.dover_model.specs.declared.events.Event.{Event}
+use Rattle.dover_model.specs.declared.horizon.Horizon.{Horizon}
+use Rattle.dover_model.specs.Common.{JobFacts, Item, job_of_item}
+use Rattle.event_feed.specs.Answers.{admitted_in}
+use Rattle.lane_server.specs.declared.lane.Work.{Work}
 use Rattle.dover_model.specs.declared.Memory.{Memory}
 use Rattle.dover_model.specs.Common.{due_lines, Account, Standing, Open, Ended, Faulty, account, account_of_lines}
 use Rattle.dover_model.specs.Common.{is_open, is_ended, next_line, lines_of, rest_of, is_too_long, Session, instance_of}
@@ -15,7 +23,7 @@ use Rattle.lane_server.specs.Lanes.{lines_added}
 use Rattle.lane_server.specs.Feeding.{Hands}
 use Rattle.lane_server.specs.declared.feed.Feed.{Feed}
 use Rattle.lane_server.specs.declared.lane.Lane.{Lane}
-use Rattle.lane_server.specs.declared.lane.Work.TheVariants.{Nothing}
+use Rattle.lane_server.specs.declared.lane.Work.TheVariants.{Nothing, Give, Run, Admit, Finish}
 use Rattle.lane_server.proofs.Adding.{account_next, added_is, lines_kept, open_serves, open_stands, opens_by}
 use Rattle.lane_server.proofs.Adding.{reach_open}
 use Rattle.ready_server.proofs.Rostered.{served_jobs}
@@ -73,6 +81,55 @@ module _ (feed : Feed) (x bytes : List ℕ)
     },
   )
   hands_line (Err e) line more stands lacks = subst (λ ls. IsDeclared (account_of_lines ls)) (sym more) lacks
+
+-- ---- the jobs of a lane
+
+-- an item more is a job at most
+one_more : (items : List Item) (item : Item)
+    → length (admitted_jobs (items ++ item ∷ [])) ≤ length (admitted_jobs items) + 1
+one_more items item = omega (
+  arith,
+  ap length (filter_map-append job_of_item items (item ∷ [])),
+  length-append (admitted_jobs items) (cons_option (job_of_item item) []),
+  by (job_of_item item),
+) where
+  by : (o : Option JobFacts) → length (cons_option o []) ≤ 1
+  by None = omega arith
+  by (Some j) = omega arith
+
+-- so many jobs at most are admitted, of a session that is there
+pub record HasJobs (a : Account) (most : ℕ) : Type 0 where
+  pub declared : IsDeclared a
+  pub few : admitted_in a ≤ most
+
+-- the jobs of a session, if there is one
+abbrev jobs_in : Option Session → ℕ
+jobs_in o = elim o [ None ↦ 0 | Some S ↦ length (admitted_jobs S.items) ]
+
+has_jobs : (a : Account) (S : Session) → a.session ≡ Some S → (v : ReadyServer) (T : Session) (to : Horizon)
+    (events : List Event) → Serves v (instance_of T) to events
+    → length (admitted_jobs S.items) ≤ length (admitted_jobs T.items) + 1 → HasJobs a (v.ready.jobs + 1)
+has_jobs a S there v T to events served few = record {
+  declared = (S, there);
+  few = omega (arith, ap jobs_in there, served_jobs v (instance_of T) to events served, few);
+}
+
+-- a server has all of them, but for one that is under way
+pub owes_jobs : (w : Work) (v : ReadyServer) (a : Account) (rest : List (List ℕ)) → Owes w (Some v) a rest
+    → HasJobs a (v.ready.jobs + 1)
+owes_jobs Nothing v a rest owes = has_jobs a owes.1.0 owes.1.1 v owes.1.0 _ _ owes.1.2 (omega arith)
+owes_jobs (Give out) v a rest owes = has_jobs a owes.1.0 owes.1.1 v owes.1.0 _ _ owes.1.2 (omega arith)
+owes_jobs (Run to) v a rest it = has_jobs a it.session it.there v it.session it.from it.events it.served (omega arith)
+owes_jobs (Admit job) v a rest it =
+    has_jobs a _ it.there v it.session it.from it.events it.served (one_more it.session.items _)
+owes_jobs (Finish at number) v a rest it =
+    has_jobs a _ it.there v it.session it.from it.events it.served (one_more it.session.items _)
+
+-- where there is none, nothing was declared
+pub owes_nothing : (w : Work) (a : Account) (rest : List (List ℕ)) → Owes w None a rest → admitted_in a ≡ 0
+owes_nothing Nothing a rest owes = ap jobs_in owes.1
+owes_nothing (Give out) a rest owes = ap jobs_in owes.1
+owes_nothing _ a rest owes = absurd owes
 
 -- ---- a lane that has given all, by its version
 

@@ -1,24 +1,20 @@
 -- What is left after a step of the server.
-use Rattle.std.proofs.Common.{◌≡◌, List, [], ◌∷◌, ◌++◌, ℕ, map, refl, sym, ap, ◌∙◌, subst, Option, Some, None, Bool, true}
+use Rattle.std.proofs.Common.{◌≡◌, List, [], ◌∷◌, ◌++◌, ℕ, map, refl, sym, ap, ◌∙◌, subst, Some}
 use Rattle.std.proofs.lemmas.List.{append-nil, append_assoc, append_cancel_left}
 use Rattle.dover_model.specs.declared.events.Event.{Event}
-use Rattle.dover_model.specs.declared.events.Event.TheVariants.{Release}
 use Rattle.dover_model.specs.Common.{JobFacts, Instance, Session, instance_of, AreShort, Begins, text_of, step_numbers}
-use Rattle.dover_model.specs.Common.{Account, account_of_lines, is_open, MayFollow, due_by}
+use Rattle.dover_model.specs.Common.{Account, account_of_lines, MayFollow, due_by}
 use Rattle.dover_model.specs.declared.horizon.Horizon.{Horizon}
-use Rattle.dover_model.specs.declared.horizon.Horizon.TheVariants.{Mark, End}
+use Rattle.dover_model.specs.declared.horizon.Horizon.TheVariants.{Mark}
 use Rattle.dover_model.proofs.settled.Horizons.{follows_on}
 use Rattle.event_feed.specs.Kept as feed
 use Rattle.lane_server.specs.Lane.{Fits, Running, Admitting, Owes, GivesFault, Stands, IsQuiet, Gives, IntakeStands}
-use Rattle.lane_server.specs.Lane.{reach, NamesFault, IsAdmitting, AdmitsBy, IsDeclared}
+use Rattle.lane_server.specs.Lane.{reach}
 use Rattle.lane_server.specs.declared.lane.Lane.{Lane}
 use Rattle.lane_server.specs.declared.lane.Work.{Work}
-use Rattle.lane_server.specs.declared.lane.Work.TheVariants.{Nothing, Give, Admit}
+use Rattle.lane_server.specs.declared.lane.Work.TheVariants.{Nothing, Give}
 use Rattle.event_feed.specs.declared.due_line.DueLine.{DueLine}
-use Rattle.event_feed.specs.declared.due_line.DueLine.TheVariants.{Step}
 use Rattle.lane_server.proofs.Printing.{event_short}
-use Rattle.lane_server.proofs.Adding.{open_stands, reach_open}
-use Rattle.ready_server.proofs.RollSettled.{no_release}
 use Rattle.ready_server.specs.Serving.{Serves, Rests}
 use Rattle.ready_server.specs.declared.server.ReadyServer.{ReadyServer}
 
@@ -154,56 +150,5 @@ lane_given lane out ls rest it is =
         names = tt;
       },
       owes.2,
-      by out (subst (λ w. GivesFault w ls) is it.names),
-    ) where
-      by : (o : DueLine) → GivesFault (Give o) ls → NamesFault o ls
-      by (Step e) names = absurd names
-      by _ names = names
-
--- ---- a job to admit
-
--- no step to a mark is a release
-pub never_released : (v u : ReadyServer) (J : Instance) (from : Horizon) (t : ℕ) (events : List Event) (e : Event)
-    → Serves v J from events → MayFollow from (Mark t) → Serves u J (Mark t) (events ++ e ∷ [])
-    → (n : ℕ) (job : JobFacts) → e ≡ Release n job → ⊥
-never_released v u J (Mark m) t events e served may next n job is =
-    no_release v u J m t events n job served (subst (λ x. Serves u J (Mark t) (events ++ x ∷ [])) is next)
-never_released v u J End t events e served may next n job is = absurd may
-
--- nor is one towards the horizon of a feed that goes on
-pub run_released : (to : Horizon) (v u : ReadyServer) (a : Account) (rest : List (List ℕ)) (it : Running to v a rest)
-    (e : Event) → Serves u (instance_of it.session) to (it.events ++ e ∷ []) → is_open a ≡ true
-    → (n : ℕ) (job : JobFacts) → e ≡ Release n job → ⊥
-run_released (Mark t) v u a rest it e served goes n job is =
-    never_released v u (instance_of it.session) it.from t it.events e it.served it.follows served n job is
-run_released End v u a rest it e served goes n job is =
-    absurd (let clash : Mark a.mark ≡ End = sym (reach_open a (open_stands a goes)) ∙ it.reached in cc)
-
-module _ (is_open : Bool) (old new : Work) where
-  -- behind a step that is no release
-  pub plain_step : (e : Event) → (IsAdmitting new → IsAdmitting old)
-      → (is_open ≡ true → (n : ℕ) (job : JobFacts) → e ≡ Release n job → ⊥) → AdmitsBy is_open old new (Some (Step e))
-  plain_step (Release n job) stays none = λ goes. absurd (none goes n job refl)
-  plain_step _ stays none = stays
-
-  -- behind a step by which the job is admitted
-  pub admitted_step : (e : Event) → IsAdmitting old → (IsAdmitting new → ⊥)
-      → AdmitsBy is_open old new (Some (Step e))
-  admitted_step (Release n job) was none = λ goes. (was, none)
-  admitted_step _ was none = λ is. absurd (none is)
-
-  -- behind the one line that was left
-  pub given_line : (out : DueLine) (ls : List (List ℕ)) → GivesFault (Give out) ls → (IsAdmitting new → ⊥)
-      → AdmitsBy is_open old new (Some out)
-  given_line (Step e) ls names none = absurd names
-  given_line _ ls names none = λ is. absurd (none is)
-
--- where a job is to be admitted, the session is there
-pub admitting_declared : (lane : Lane) (ls rest : List (List ℕ)) → Stands lane ls rest → IsAdmitting lane.work
-    → IsDeclared (account_of_lines ls)
-admitting_declared lane ls rest it = by lane.work lane.server it.owes where
-  by : (w : Work) (o : Option ReadyServer) → Owes w o (account_of_lines ls) rest → IsAdmitting w
-      → IsDeclared (account_of_lines ls)
-  by (Admit job) None owes is = absurd owes
-  by (Admit job) (Some v) owes is = (_, owes.there)
-  by _ o owes is = absurd is
+      subst (λ w. GivesFault w ls) is it.names,
+    )

@@ -20,7 +20,7 @@ use Rattle.event_feed.specs.declared.faults.FeedFault.{FeedFault}
 use Rattle.event_feed.specs.declared.fed.Fed.{Fed}
 use Rattle.event_feed.specs.declared.fed.Fed.TheVariants.{Over}
 use Rattle.lane_server.specs.Lanes.{lines_added}
-use Rattle.lane_server.specs.Lane.{IsDeclared, Fits, IsOpenAt, Owes, GivesFault, Adds, Stands, IsQuiet}
+use Rattle.lane_server.specs.Lane.{IsDeclared, Fits, IsOpenAt, Owes, GivesFault, Adds, Stands, IsQuiet, NamesFault}
 use Rattle.lane_server.specs.Lane.{IntakeStands}
 use Rattle.lane_server.specs.declared.lane.Lane.{Lane}
 use Rattle.lane_server.specs.declared.lane.Work.TheVariants.{Nothing, Give, Run, Admit, Finish}
@@ -101,7 +101,7 @@ module _ (lane : Lane) (a b : Account) (S : Session) (line : RefusedLine) (at : 
     (there : a.session ≡ Some S) (open_still : b.standing ≡ Open) (same_mark : b.mark ≡ a.mark)
     (behind : b.session ≡ Some (with_item S (RefusedItem (record { at = a.mark; line = line })))) where
   refused_adds : (out : DueLine) → HasNumerals out → refused_text (record { at = a.mark; line = line }) ≡ out_text out
-      → ((ls : List (List ℕ)) → GivesFault (Give out) ls)
+      → ((ls : List (List ℕ)) → NamesFault out ls)
       → Adds (record lane { work = Give out }) a b
   refused_adds out numerals text names = record {
     opened = at.opened ∙ sym (opens_by b Open open_still);

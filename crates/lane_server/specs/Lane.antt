@@ -1,9 +1,8 @@
 -- What a lane keeps of its feed, and what it still has to give.
-use Rattle.std.specs.Prelude.{◌≡◌, ◌⊎◌, ℕ, List, [], ◌∷◌, ◌++◌, length, map, drop, Bool, true, false, if◌then◌else◌}
+use Rattle.std.specs.Prelude.{◌≡◌, ◌⊎◌, ℕ, List, [], ◌∷◌, ◌++◌, length, map, drop, true, false, if◌then◌else◌}
 use Rattle.std.specs.Prelude.{Option, Some, None}
 use Rattle.std.specs.Option.{option_map_or}
 use Rattle.dover_model.specs.declared.events.Event.{Event}
-use Rattle.dover_model.specs.declared.events.Event.TheVariants.{Release}
 use Rattle.dover_model.specs.declared.events.Refusal.TheVariants.{Full}
 use Rattle.dover_model.specs.Common.{JobFacts, job_numbers, IsValid, with_jobs, with_finishes, Item, FinishItem}
 use Rattle.dover_model.specs.Common.{is_full, RefusedJob, RefusedDone, Session, instance_of, with_item, finish_at}
@@ -21,7 +20,7 @@ use Rattle.event_feed.specs.declared.fed.Fed.{Fed}
 use Rattle.event_feed.specs.declared.fed.Fed.TheVariants as fed
 use Rattle.event_feed.specs.Faults.{IsFirstFault}
 use Rattle.event_feed.specs.declared.due_line.DueLine.{DueLine}
-use Rattle.event_feed.specs.declared.due_line.DueLine.TheVariants.{Step, Refused}
+use Rattle.event_feed.specs.declared.due_line.DueLine.TheVariants.{Refused}
 use Rattle.lane_server.specs.declared.lane.Lane.{Lane}
 use Rattle.lane_server.specs.declared.lane.Work.{Work}
 use Rattle.lane_server.specs.declared.lane.Work.TheVariants.{Nothing, Give, Run, Admit, Finish}
@@ -148,9 +147,8 @@ Owes (Admit job) (Some server) a rest = Admitting job server a rest
 Owes (Finish at number) None a rest = ⊥
 Owes (Finish at number) (Some server) a rest = Finishing at number server a rest
 
--- a line that is left to give is no step, and where it refuses the feed, it names its fault
+-- a line that refuses the feed, and is left to give, names its fault
 abbrev pub GivesFault : Work → List (List ℕ) → Type 0
-GivesFault (Give (Step e)) ls = ⊥
 GivesFault (Give out) ls = NamesFault out ls
 GivesFault _ ls = Unit {0}
 
@@ -167,18 +165,6 @@ IntakeStands _ intake ls = feed.StandsFor intake ls
 abbrev pub TurnsTo : Fed → Work → Type 0
 TurnsTo (fed.Job number job) work = work ≡ Admit job
 TurnsTo _ work = (job : JobFacts) → work ≡ Admit job → ⊥
-
--- a job is still to be admitted
-abbrev pub IsAdmitting : Work → Type 0
-IsAdmitting (Admit job) = Unit {0}
-IsAdmitting _ = ⊥
-
--- While the feed goes on, a release is given only where a job was to be admitted, and none is any more. Behind any other
--- answer one is only where one was.
-abbrev pub AdmitsBy : (is_open : Bool) → (old new : Work) → Option DueLine → Type 0
-AdmitsBy is_open old new (Some (Step (Release n job))) =
-    is_open ≡ true → IsAdmitting old × (IsAdmitting new → ⊥)
-AdmitsBy is_open old new _ = IsAdmitting new → IsAdmitting old
 
 -- The lane was handed these lines, and these are left to give.
 pub record Stands (lane : Lane) (ls rest : List (List ℕ))

@@ -2,7 +2,7 @@
 ghost use Rattle.std.specs.Prelude.{◌≡◌, ◌<◌, ◌∷◌, ℕ, List, [], true, length, OnOk};
 ghost use Rattle.dover_model.specs.Common.{account, is_open, lines_of, rest_of};
 ghost use Rattle.line_text.specs.Cutting.{IsWholeLine, begun_line};
-ghost use Rattle.lane_server.specs.Lane.{IsQuiet, AdmitsBy};
+ghost use Rattle.lane_server.specs.Lane.{IsQuiet};
 ghost use Rattle.lane_server.specs.Feeding.{FeedStands, FeedRests, FeedGives, Hands, Takes};
 ghost use Rattle.lane_server.specs.Spending.{HasPaid};
 
@@ -130,7 +130,6 @@ impl Feed {
             FeedGives result self.new x left }
         ensures paid { (start : ℕ) → HasPaid self.old.lane.server start comparisons.old →
             HasPaid self.new.lane.server start comparisons.new }
-        ensures admits { AdmitsBy self.old.lane.is_open self.old.lane.work self.new.lane.work result }
     {
         self.lane.next_out(comparisons)
     }

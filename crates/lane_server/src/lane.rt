@@ -1,5 +1,5 @@
 //! One lane: a feed, the server that it feeds, and the lines that are due and not yet given.
-ghost use Rattle.std.specs.Prelude.{◌≡◌, ◌↔◌, ◌≤◌, ◌<◌, ℕ, List, [], ◌∷◌, ◌++◌, Bool, length, Some, Err, true, IsSome, IsTrue};
+ghost use Rattle.std.specs.Prelude.{◌≡◌, ◌↔◌, ◌≤◌, ◌<◌, ℕ, List, [], ◌∷◌, ◌++◌, Bool, length, Some, Err, true, IsSome};
 ghost use Rattle.std.specs.Prelude.{OnOk, OnErr, option_map};
 ghost use Rattle.dover_model.specs.Common.{Account, account_of_lines, is_open, admitted_jobs, CostsAtMost, JobFacts};
 ghost use Rattle.event_feed.specs.Answers.{DeclaresRatio, AddsJob, AddsDone, IsFed, EndAnswers, counted, admitted_in};
@@ -9,7 +9,6 @@ ghost use Rattle.event_feed.specs.declared.due_line.DueLine.TheVariants.{Header,
 ghost use Rattle.event_feed.specs.declared.faults.FeedFault.{FeedFault};
 ghost use Rattle.lane_server.specs.Lanes.{lines_added, feed_short, is_fine};
 ghost use Rattle.lane_server.specs.Lane.{IsDeclared, AsksForMemory, Stands, IsQuiet, Gives, IsOpenAt, Adds, TurnsTo};
-ghost use Rattle.lane_server.specs.Lane.{IsAdmitting, AdmitsBy};
 ghost use Rattle.lane_server.specs.Spending.{HasPaid};
 ghost use Rattle.lane_server.specs.Shorts.{short_texts};
 ghost use Rattle.lane_server.specs.declared.lane.Work.TheVariants.{Nothing, Give, Run, Admit, Finish};
@@ -243,7 +242,6 @@ impl Lane {
             → Gives result self.new ls rest }
         ensures paid { (start : ℕ) → HasPaid self.old.server start comparisons.old
             → HasPaid self.new.server start comparisons.new }
-        ensures admits { AdmitsBy self.old.is_open self.old.work self.new.work result }
     {
         ReadyServer::laws();
         let Some(server) = &mut self.server else {
@@ -283,7 +281,6 @@ impl Lane {
             → Gives result self.new ls rest }
         ensures paid { (start : ℕ) → HasPaid self.old.server start comparisons.old
             → HasPaid self.new.server start comparisons.new }
-        ensures admits { AdmitsBy self.old.is_open self.old.work self.new.work result }
     {
         ReadyServer::laws();
         let Some(server) = &mut self.server else {
@@ -315,7 +312,6 @@ impl Lane {
             → Gives result self.new ls rest }
         ensures paid { (start : ℕ) → HasPaid self.old.server start comparisons.old
             → HasPaid self.new.server start comparisons.new }
-        ensures admits { AdmitsBy self.old.is_open self.old.work self.new.work result }
     {
         ReadyServer::laws();
         let Some(server) = &mut self.server else {
@@ -348,7 +344,6 @@ impl Lane {
             → Gives result self.new ls rest }
         ensures paid { (start : ℕ) → HasPaid self.old.server start comparisons.old
             → HasPaid self.new.server start comparisons.new }
-        ensures admits { AdmitsBy self.old.is_open self.old.work self.new.work result }
     {
         match &self.work {
             Work::Nothing => None,
@@ -436,11 +431,17 @@ impl Lane {
         self.intake.spelled()
     }
 
-    /// Whether a job is still to be admitted.
-    pub fn is_admitting(&self) -> bool
-        ensures { IsTrue result ↔ IsAdmitting self.now.work }
+    /// No fewer jobs than are admitted with what is under way. 0 where the ratio wasn't declared.
+    pub fn most_jobs(&self) -> usize
+        ensures many { (ls rest : List (List ℕ)) → Stands self.now ls rest
+            → admitted_in (account_of_lines ls) ≤ result }
+        ensures declared { (ls rest : List (List ℕ)) → Stands self.now ls rest → 0 < result
+            → IsDeclared (account_of_lines ls) }
     {
-        matches!(self.work, Work::Admit(_))
+        match &self.server {
+            Some(server) => server.jobs() as usize + 1,
+            None => 0,
+        }
     }
 
     /// The mark: the tick up to which all is settled.

@@ -75,7 +75,7 @@ calm_is t stale = ap (with_role t) (by t.role refl) where
   by Fresh e = absurd (stale e)
   by _ e = refl
 
-module _ (J : Instance) (valid : IsValid J) (mark : ℕ) (known : AllByRecursion (λ j. j.release ≤ mark) J.jobs) where
+module _ (J : Instance) (valid : IsValid J) (mark : ℕ) where
   abbrev s : State
   s = settled_state J mark
 
@@ -93,8 +93,9 @@ module _ (J : Instance) (valid : IsValid J) (mark : ℕ) (known : AllByRecursion
   follows = roll_follows J valid mark s (settled J mark) printed_there
 
   -- the roll of the settled steps has the jobs in the state that they lead to
-  pub settled_jobs : map (job_at (roll_of (settled J mark)) mark) (roll_of (settled J mark)).jobs ≡ s.tasks
-  settled_jobs = all_listed (job_at (roll_of (settled J mark)) mark) 0 s.tasks (roll_of (settled J mark)).jobs
+  pub settled_jobs : AllByRecursion (λ j. j.release ≤ mark) J.jobs
+      → map (job_at (roll_of (settled J mark)) mark) (roll_of (settled J mark)).jobs ≡ s.tasks
+  settled_jobs known = all_listed (job_at (roll_of (settled J mark)) mark) 0 s.tasks (roll_of (settled J mark)).jobs
       bar.keeps.sound.numbered there follows.few where
         there : (t : Task) → IsMember t s.tasks
             → (e : ListedJob) × (slice_get (roll_of (settled J mark)).jobs (t.number - 0) ≡ Some e)
@@ -167,6 +168,28 @@ same_count p (Take at stops starts) other = halt_count p at Waiting
 same_count p (Complete at n) other = halt_count p at Done
 same_count p (Abandon at n) other = stop_count p n 0 Gone
 same_count p _ other = refl
+
+-- and none takes a job away
+one_more : (p : Roll) (e : Event) → length p.jobs ≤ length (with_event p e).jobs
+one_more p (Release n job) = omega (arith, length-append p.jobs (released n job ∷ []))
+one_more p e = omega (arith, same_count p e (λ n job is. absurd (let no : e ≡ Release n job = is in cc)))
+
+jobs_more : (events : List Event) (p : Roll) → length p.jobs ≤ length (fold with_event p events).jobs
+jobs_more [] p = omega arith
+jobs_more (e ∷ events) p = omega (arith, jobs_more events (with_event p e), one_more p e)
+
+-- so steps that were settled release no more jobs than there are
+pub few_jobs : (J : Instance) → IsValid J → (mark : ℕ) (events : List Event) → Begins events (settled J mark)
+    → length (roll_of events).jobs ≤ length J.jobs
+few_jobs J valid mark events (rest, is) = omega (
+  arith,
+  jobs_more rest (roll_of events),
+  ap (λ es. length (roll_of es).jobs) is,
+  ap (λ (p : Roll). length p.jobs) (fold-append with_event empty_roll events rest),
+  (follows J valid mark).few,
+  count_jobs (settled_state J mark).tasks,
+  ap length (bar J valid mark).keeps.jobs,
+)
 
 -- there are few takes
 pub takes_low : (J : Instance) (to : Horizon) (events : List Event) → IsValid J → Begins events (due_by J to)

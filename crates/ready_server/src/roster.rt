@@ -109,22 +109,24 @@ impl Roster {
 
     /// How many jobs were released.
     pub fn count(&self) -> usize
-        ensures { result ≡ length self.now.roll.jobs }
+        ensures is { result ≡ length self.now.roll.jobs }
+        ensures few { result < 2 ^ 63 }
     {
         self.jobs.len()
     }
 
-    /// Makes room for one job more. Where there is room, it takes no memory.
-    pub fn make_room(&mut self) -> Result<(), Memory>
+    /// Makes room for so many jobs. Where there is room, it takes no memory.
+    pub fn make_room(&mut self, jobs: usize) -> Result<(), Memory>
         ensures same { self.new.roll ≡ self.old.roll }
-        ensures room { OnOk result (length self.new.roll.jobs < self.new.room) }
-        ensures enough { length self.old.roll.jobs < self.old.room → IsOk result }
+        ensures room { OnOk result (jobs ≤ self.new.room) }
+        ensures enough { jobs ≤ self.old.room → IsOk result }
     {
-        let count = self.jobs.len();
-        if count < self.jobs.capacity() {
+        if jobs <= self.jobs.capacity() {
             return Ok(());
         }
-        self.jobs.reserve(count.max(1))?;
+        let count = self.jobs.len();
+        self.jobs
+            .reserve(count.max(jobs.saturating_sub(count)))?;
         Ok(())
     }
 

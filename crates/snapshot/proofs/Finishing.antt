@@ -15,7 +15,7 @@ use Rattle.dover_model.proofs.sessions.RunSessions.{run_jobs}
 use Rattle.dover_model.proofs.lists.Tests.{none_is_some}
 use Rattle.dover_model.specs.Common.{JobFacts, Instance, IsValid, jobs_of, State, last_tick, most_items, Item, JobItem}
 use Rattle.dover_model.specs.Common.{RefusedItem, FinishItem, admitted_jobs, instance_of, session_with, mark_after}
-use Rattle.dover_model.specs.Common.{settled, settled_state, Account, account_of_lines}
+use Rattle.dover_model.specs.Common.{settled_state, Account, account_of_lines}
 use Rattle.dover_model.specs.declared.events.Task.{Task}
 use Rattle.dover_model.specs.declared.events.Version.{Version}
 use Rattle.dover_model.specs.declared.events.Version.TheVariants.{One}
@@ -29,7 +29,9 @@ use Rattle.snapshot.specs.Stored.{HasRead, jobs_session}
 use Rattle.snapshot.specs.Forms.{head_in}
 use Rattle.ready_server.specs.Roster.{Roll, job_at}
 use Rattle.snapshot.specs.Kept.{CanPause, Holds, HasRun, HasRunTowards, IsServed, IsWhole, Resumes, AreAt, stance_of}
-use Rattle.snapshot.specs.Kept.{handed_account, handed_lines, feed_lines, paused_account}
+use Rattle.snapshot.specs.Kept.{IsAbout, IsFed, handed_account, handed_lines, feed_lines, paused_account}
+use Rattle.snapshot.specs.Spending.{jobs_read}
+use Rattle.snapshot.proofs.Spending.{jobs_lines, jobs_run}
 use Rattle.snapshot.specs.declared.resuming.Resuming.{Resuming}
 use Rattle.snapshot.specs.declared.resuming.Stance.{Stance}
 use Rattle.snapshot.proofs.Beginning.{within, all_account}
@@ -110,14 +112,29 @@ module _ (h : Head) (tasks : List Task) (ls : List (List ℕ)) (read : HasRead h
     other_refused n is other =
         refused_here h tasks ls read r it (ls ++ line ∷ []) n is (no_last h tasks ls read line all_read other)
 
-    module _ (n : Resuming) (run : HasRun n h tasks r.head.mark) where
+    module _ (n : Resuming) (taken : (h : Head) (tasks : List Task) → IsAbout r h tasks
+        → HasRunTowards r h tasks r.last → HasRun n h tasks r.head.mark)
+        (same : n ≡ record r { server = n.server; roster = n.roster; handed = n.handed; last = n.last }) where
+      run : HasRun n h tasks r.head.mark
+      run = taken h tasks it.about run_so_far
+
+      heads : n.head ≡ r.head
+      heads = ap (λ (x : Resuming). x.head) same
+
+      pub head_there : head_in n.head ≡ h
+      head_there = ap head_in heads ∙ it.about.head
+
+      -- no more jobs were taken than the lines have
+      pub jobs_there : n.server.ready.jobs ≤ jobs_read (reading_of (ls ++ line ∷ []))
+      jobs_there = jobs_lines ls h tasks read line n.server.ready.jobs (jobs_run n h tasks r.head.mark run)
+
       -- it was taken to the mark
       served : IsServed n.server n.roster h tasks run.items h.mark
       served = subst (IsServed n.server n.roster h tasks run.items) mark_is run.served
 
       -- the jobs that were reached
       abbrev pub reached_tasks : List Task
-      reached_tasks = map (job_at n.roster.roll r.head.mark) n.roster.roll.jobs
+      reached_tasks = map (job_at n.roster.roll n.head.mark) n.roster.roll.jobs
 
       abbrev J : Instance
       J = instance_of (session_with h.rules run.items)
@@ -126,7 +143,7 @@ module _ (h : Head) (tasks : List Task) (ls : List (List ℕ)) (read : HasRead h
       valid = served.rests.rests.follows.valid
 
       at_barrier : reached_tasks ≡ (settled_state J h.mark).tasks
-      at_barrier = ap (λ m. map (job_at n.roster.roll m) n.roster.roll.jobs) mark_is
+      at_barrier = ap (λ (g : Head). map (job_at n.roster.roll g.mark) n.roster.roll.jobs) head_there
           ∙ ap (λ (p : Roll). map (job_at p h.mark) p.jobs) served.rests.read
           ∙ settled_jobs J valid h.mark (subst (AllByRecursion (λ (j : JobFacts). j.release ≤ h.mark))
           (sym served.handed.jobs) served.known)
@@ -136,11 +153,12 @@ module _ (h : Head) (tasks : List Task) (ls : List (List ℕ)) (read : HasRead h
           (sym (state_same n.server n.roster h tasks run.items h.mark served))
 
       -- they are as many as were read
-      pub reached_count : length r.stances.items ≡ length n.roster.roll.jobs
+      pub reached_count : length n.stances.items ≡ length n.roster.roll.jobs
       reached_count = omega (
         arith,
+        ap (λ (x : Resuming). length x.stances.items) same,
         served_count h tasks ls read r it,
-        length-map n.roster.roll.jobs (job_at n.roster.roll r.head.mark),
+        length-map n.roster.roll.jobs (job_at n.roster.roll n.head.mark),
         ap length at_barrier,
         count_jobs (settled_state J h.mark).tasks,
         ap length (settled_at_barrier J valid h.mark).keeps.jobs,
@@ -150,7 +168,7 @@ module _ (h : Head) (tasks : List Task) (ls : List (List ℕ)) (read : HasRead h
 
       -- where the jobs aren't as stored, the line is refused
       pub state_refused : (m : ℕ) (stances : List Stance) → m ≡ length r.stances.items
-          → stances ≡ r.stances.items → (AreAt reached_tasks stances → ⊥)
+          → stances ≡ n.stances.items → (AreAt reached_tasks stances → ⊥)
           → reading_of (ls ++ line ∷ []) ≡ Refused (m + 2)
       state_refused m stances is kept other = refused_here h tasks ls read r it (ls ++ line ∷ []) m is
           (other_state h tasks ls read line all_read (by (is_settled h tasks) refl)) where
@@ -158,9 +176,12 @@ module _ (h : Head) (tasks : List Task) (ls : List (List ℕ)) (read : HasRead h
             by false fails = fails
             by true passes = absurd (other (ap (map stance_of) tasks_are
                 ∙ sym (alike_all tasks (settled_state (stored h tasks) h.mark).tasks passes) ∙ sym it.about.stances
-                ∙ sym kept))
+                ∙ sym (kept ∙ ap (λ (x : Resuming). x.stances.items) same)))
 
-      module _ (stances : List Stance) (kept : stances ≡ r.stances.items) (at : AreAt reached_tasks stances) where
+      module _ (stances : List Stance) (value : stances ≡ n.stances.items) (at : AreAt reached_tasks stances) where
+        kept : stances ≡ r.stances.items
+        kept = value ∙ ap (λ (x : Resuming). x.stances.items) same
+
         -- they are
         settled_is : is_settled h tasks ≡ true
         settled_is = all_alike tasks (settled_state (stored h tasks) h.mark).tasks
@@ -194,11 +215,10 @@ module _ (h : Head) (tasks : List Task) (ls : List (List ℕ)) (read : HasRead h
           items_low _ = omega arith
 
         -- what is tested of the lines
-        pub lines_are : n.head ≡ r.head
-            → nat_lt n.handed n.head.lines && (nat_le n.head.mark n.last || nat_lt (n.handed + 1) n.head.lines)
+        lines_are : nat_lt n.handed n.head.lines && (nat_le n.head.mark n.last || nat_lt (n.handed + 1) n.head.lines)
             ≡ has_reached_mark h tasks
-        lines_are same = ap (λ (g : Head). nat_lt n.handed g.lines
-            && (nat_le g.mark n.last || nat_lt (n.handed + 1) g.lines)) (ap head_in same ∙ it.about.head)
+        lines_are = ap (λ (g : Head). nat_lt n.handed g.lines
+            && (nat_le g.mark n.last || nat_lt (n.handed + 1) g.lines)) head_there
             ∙ ap (λ m. nat_lt m h.lines && (nat_le h.mark n.last || nat_lt (m + 1) h.lines)) run.counted.count
             ∙ ap (λ l. nat_lt (length run.items) h.lines && (nat_le h.mark l || nat_lt (length run.items + 1) h.lines))
             run.counted.last
@@ -211,15 +231,19 @@ module _ (h : Head) (tasks : List Task) (ls : List (List ℕ)) (read : HasRead h
               by false b c e = refl
 
         -- where they don't do, the line is refused
-        pub mark_refused : (m : ℕ) → m ≡ length r.stances.items → n.head ≡ r.head
+        pub mark_refused : (m : ℕ) → m ≡ length r.stances.items
             → nat_lt n.handed n.head.lines && (nat_le n.head.mark n.last || nat_lt (n.handed + 1) n.head.lines) ≡ false
             → reading_of (ls ++ line ∷ []) ≡ Refused (m + 2)
-        mark_refused m is same beyond = refused_here h tasks ls read r it (ls ++ line ∷ []) m is
-            (mark_beyond h tasks ls read line all_read (sym (lines_are same) ∙ beyond))
+        mark_refused m is beyond = refused_here h tasks ls read r it (ls ++ line ∷ []) m is
+            (mark_beyond h tasks ls read line all_read (sym lines_are ∙ beyond))
 
         -- otherwise the feed may pause there
-        module _ (reached : has_reached_mark h tasks ≡ true) where
-          pub can_pause : CanPause h tasks
+        module _ (enough : nat_lt n.handed n.head.lines
+            && (nat_le n.head.mark n.last || nat_lt (n.handed + 1) n.head.lines) ≡ true) where
+          reached : has_reached_mark h tasks ≡ true
+          reached = sym lines_are ∙ enough
+
+          can_pause : CanPause h tasks
           can_pause = record { limits = read.limits; all = all_is; known = known; reached = low } where
             tests : nat_lt (length run.items) h.lines && nat_le (mark_after 0 run.items) h.mark
                 && (nat_le h.mark (mark_after 0 run.items) || nat_lt (length run.items + 1) h.lines) ≡ true
@@ -260,6 +284,14 @@ module _ (h : Head) (tasks : List Task) (ls : List (List ℕ)) (read : HasRead h
                   ))
                   by false false e f some few = absurd (let clash : false ≡ true = some in cc)
 
+          -- so the intake may be handed the lines that are left
+          pub fed_there : IsFed n.intake (head_in n.head) tasks
+          fed_there = subst (λ (g : Head). IsFed n.intake g tasks) (sym head_there)
+              (subst (λ (x : Resuming). IsFed x.intake h tasks) (sym same) it.fed)
+
+          pub may_there : CanPause (head_in n.head) tasks
+          may_there = subst (λ (g : Head). CanPause g tasks) (sym head_there) can_pause
+
           -- the snapshot is whole
           pub is_whole : bytes_eq line (codes "resume") ≡ true → line ≡ codes "resume"
               → IsWhole h tasks (ls ++ line ∷ [])
@@ -275,9 +307,11 @@ module _ (h : Head) (tasks : List Task) (ls : List (List ℕ)) (read : HasRead h
 
           -- its run goes on
           pub resumes : bytes_eq line (codes "resume") ≡ true → line ≡ codes "resume" → (i : feed.Kept)
-              → feed.StandsFor i (handed_lines h tasks) → Resumes n.server n.roster i h tasks
-          resumes last same i stands =
+              → feed.StandsFor i (handed_lines (head_in n.head) tasks) → Resumes n.server n.roster i h tasks
+          resumes last same i handing =
               let whole : IsWhole h tasks (ls ++ line ∷ []) = is_whole last same in
+              let stands : feed.StandsFor i (handed_lines h tasks) =
+              subst (λ (g : Head). feed.StandsFor i (handed_lines g tasks)) head_there handing in
               let handed : account_of_lines (handed_lines h tasks) ≡ handed_account h tasks =
               all_account h tasks can_pause it.fed.account in
               let account : account_of_lines (feed_lines h tasks) ≡ paused_account h tasks =

@@ -19,7 +19,7 @@ use Rattle.dover_model.proofs.settled.Paths.{path_settles, one_settled_run}
 use Rattle.dover_model.proofs.rest.Resting.{path_state}
 use Rattle.dover_model.proofs.rest.RestTick.{rests_where_ended}
 use Rattle.dover_model.proofs.settled.Settling.{settled_is_run}
-use Rattle.dover_model.proofs.lists.Tests.{never, none_is_some}
+use Rattle.dover_model.proofs.lists.Tests.{none_is_some}
 use Rattle.dover_model.proofs.valid.Valid.{all_from}
 use Rattle.ready_server.proofs.Rostered.{roster_rests, more_read}
 use Rattle.ready_server.specs.NextStep.{ComesAt}

@@ -16,7 +16,6 @@ use Rattle.dover_model.specs.Common.{finish_at, may_finish_early, settled_state,
 use Rattle.dover_model.specs.Common.{jobs_of, FeedLine, JobLine, TickLine, DoneLine, feed_text, Account, Open}
 use Rattle.dover_model.specs.Common.{account_of_lines}
 use Rattle.dover_model.specs.Session.{follows_items}
-use Rattle.dover_model.specs.declared.horizon.Horizon.TheVariants.{Mark}
 use Rattle.event_feed.specs.Answers.{AddsJob, counted}
 use Rattle.event_feed.specs.declared.fed.Fed.{Fed}
 use Rattle.event_feed.specs.declared.fed.Fed.TheVariants as fed

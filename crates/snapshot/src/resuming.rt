@@ -314,7 +314,8 @@ impl Resuming {
         ensures count { (start : ℕ) → ready.HasPaid self.old.server start comparisons.old
             → ready.HasPaid self.new.server start comparisons.new }
     {
-        self.roster.make_room()?;
+        let listed = self.roster.count();
+        self.roster.make_room(listed + 1)?;
         self.server.make_room()?;
         self.run_to(self.last, job.release(), comparisons);
         self.handed += 1;

@@ -197,6 +197,7 @@ giving_none c f k now x it = record {
   };
   given = due_lines (account (c.feed ++ x));
   due = sym (append-nil (due_lines (account (c.feed ++ x))));
+  room = λ line more is. absurd (let no : [] ≡ line ∷ more = is in cc);
   lists = it.lists;
 }
 

@@ -1,7 +1,7 @@
 -- A roster that is kept from the lines that are given for a feed lists its jobs.
-use Rattle.std.proofs.Common.{◌≡◌, ◌<◌, ◌-◌, ◌^◌, ℕ, List, [], ◌∷◌, ◌++◌, length, map, max, take, drop, codes, decimal, refl, sym}
+use Rattle.std.proofs.Common.{◌≡◌, ◌<◌, ◌≤◌, ◌-◌, ◌^◌, ℕ, List, [], ◌∷◌, ◌++◌, length, map, max, take, drop, codes, decimal, refl, sym}
 use Rattle.std.proofs.Common.{ap, ◌∙◌, subst, Option, Some, None, true, false, filter_map, option_and_then, arith}
-use Rattle.std.proofs.Common.{take-append-drop}
+use Rattle.std.proofs.Common.{take-append-drop, length-append, append_assoc}
 use Rattle.std.proofs.lemmas.List.{append-nil, map-append}
 use Rattle.std.proofs.lemmas.List.Elements.{filter_map-append}
 use Rattle.std.specs.List.{AllByRecursion, cons_option}
@@ -11,6 +11,7 @@ use Rattle.dover_model.specs.declared.events.Event.TheVariants.{Release, Run, Pr
 use Rattle.dover_model.specs.declared.horizon.Horizon.TheVariants.{Mark}
 use Rattle.dover_model.specs.JobFacts.{JobFacts}
 use Rattle.dover_model.specs.Common.{AreShort, job_numbers, step_numbers, text_of, with_numbers, Session, instance_of}
+use Rattle.dover_model.specs.Common.{admitted_jobs}
 use Rattle.dover_model.specs.Common.{IsValid, settled, printed, Begins, due_lines, account, is_open, texts_among, Placed}
 use Rattle.dover_model.specs.Common.{places_of, put_in, Printed, Refuses, text_of_line}
 use Rattle.dover_model.proofs.sessions.Accounts.{account_kept}
@@ -21,14 +22,13 @@ use Rattle.dover_model.proofs.valid.Valid.{all_front}
 use Rattle.event_feed.specs.DueLines.{out_text, HasNumerals}
 use Rattle.event_feed.specs.declared.due_line.DueLine.{DueLine}
 use Rattle.event_feed.specs.declared.due_line.DueLine.TheVariants.{Step}
-use Rattle.lane_server.specs.Lane.{IsAdmitting, AdmitsBy}
-use Rattle.lane_server.specs.declared.lane.Work.{Work}
 use Rattle.lane_server.proofs.Adding.{due_open, holds_of, open_stands}
-use Rattle.ready_server.specs.Roster.{Kept, Roll, with_event, roll_of, IsRollOf, HasLine}
-use Rattle.ready_server.proofs.RollSettled.{takes_low}
-use Rattle.ready_server.proofs.Rostered.{more_read, line_left}
+use Rattle.event_feed.specs.Answers.{admitted_in}
+use Rattle.ready_server.specs.Roster.{Kept, Roll, roll_of, released, IsRollOf, HasLine}
+use Rattle.ready_server.proofs.RollSettled.{takes_low, few_jobs, roll_more}
+use Rattle.ready_server.proofs.Rostered.{more_read}
 use Rattle.feed_words.specs.serve.Listing.{of_two, of_three, release_of, end_of, step_of_fields, step_of_text, steps_in}
-use Rattle.feed_words.specs.serve.Listing.{with_line, Lists}
+use Rattle.feed_words.specs.serve.Listing.{with_line}
 
 -- ---- the steps among lines
 
@@ -104,74 +104,69 @@ module _ (y : List ℕ) (goes : is_open (account y) ≡ true) (S : Session) (the
       (all_front (λ e. AreShort (step_numbers e)) (settled (instance_of S) (account y).mark) begins.0
       (subst AreAllShort begins.1 (printed_short (instance_of S) valid)))
 
--- there were few takes among lines that are due
-few_listed : (y : List ℕ) → is_open (account y) ≡ true → (given left : List (List ℕ))
-    → due_lines (account y) ≡ given ++ left → (roll_of (steps_in given)).takes < 2 ^ 64 - 1
-few_listed y goes given left due = by (account y).session refl where
-  all : steps_in (due_lines (account y)) ≡ steps_in given ++ steps_in left
-  all = ap steps_in due ∙ filter_map-append step_of_text given left
+-- the lines that are due for it were given, up to these that are left
+module _ (k : Kept) (y : List ℕ) (goes : is_open (account y) ≡ true) (given left : List (List ℕ))
+    (due : due_lines (account y) ≡ given ++ left) (it : IsRollOf (steps_in given) k) where
+  -- where no session is there, none is
+  none_due : (account y).session ≡ None → given ++ left ≡ []
+  none_due none = sym due ∙ subst (λ o. due_lines (record (account y) { session = o }) ≡ []) (sym none)
+      (subst (λ s. due_lines (record (account y) { session = None; standing = s }) ≡ [])
+      (sym (open_stands (account y) goes)) refl)
 
-  by : (o : Option Session) → (account y).session ≡ o → (roll_of (steps_in given)).takes < 2 ^ 64 - 1
-  by None none = few (front given (sym due ∙ nothing)) where
-    nothing : due_lines (account y) ≡ []
-    nothing = subst (λ o. due_lines (record (account y) { session = o }) ≡ []) (sym none)
-        (subst (λ s. due_lines (record (account y) { session = None; standing = s }) ≡ [])
-        (sym (open_stands (account y) goes)) refl)
+  -- otherwise they begin what is settled
+  begins : (S : Session) → (account y).session ≡ Some S
+      → settled (instance_of S) (account y).mark ≡ steps_in given ++ steps_in left
+  begins S there = sym (settled_back y goes S there) ∙ ap steps_in due ∙ filter_map-append step_of_text given left
 
-    front : (xs : List (List ℕ)) → xs ++ left ≡ [] → xs ≡ []
-    front [] e = refl
+  -- there were few takes
+  pub few_listed : k.roll.takes < 2 ^ 64 - 1
+  few_listed = subst (λ (p : Roll). p.takes < 2 ^ 64 - 1) (sym it) (by (account y).session refl) where
+    front : (xs : List (List ℕ)) → xs ++ left ≡ [] → (roll_of (steps_in xs)).takes < 2 ^ 64 - 1
+    front [] e = omega arith
     front (x ∷ xs) e = absurd (let clash : x ∷ (xs ++ left) ≡ [] = e in cc)
 
-    few : given ≡ [] → (roll_of (steps_in given)).takes < 2 ^ 64 - 1
-    few is = subst (λ xs. (roll_of (steps_in xs)).takes < 2 ^ 64 - 1) (sym is) (omega arith)
-  by (Some S) there = takes_low (instance_of S) (Mark (account y).mark) (steps_in given) (valid y goes S there)
-      (steps_in left, sym (settled_back y goes S there) ∙ all)
+    by : (o : Option Session) → (account y).session ≡ o → (roll_of (steps_in given)).takes < 2 ^ 64 - 1
+    by None none = front given (none_due none)
+    by (Some S) there = takes_low (instance_of S) (Mark (account y).mark) (steps_in given) (valid y goes S there)
+        (steps_in left, begins S there)
+
+  -- a release that is given next finds room
+  pub room_listed : admitted_in (account y) ≤ k.room → (n : ℕ) (job : JobFacts) (more : List (List ℕ))
+      → left ≡ text_of (Release n job) ∷ more → AreShort (step_numbers (Release n job)) → HasLine k
+  room_listed room n job more next short = by (account y).session refl where
+    by : (o : Option Session) → (account y).session ≡ o → HasLine k
+    by None none = absurd (omega (
+      arith,
+      ap length (none_due none),
+      ap length next,
+      length-append given left,
+    ))
+    by (Some S) there =
+        let front : steps_in left ≡ Release n job ∷ steps_in more = ap steps_in next
+        ∙ ap (λ o. cons_option o (steps_in more)) (step_back (Release n job) short) in omega (
+          arith,
+          room,
+          ap {B = ℕ} (λ (o : Option Session). elim o [ None ↦ 0 | Some T ↦ length (admitted_jobs T.items) ]) there,
+          few_jobs (instance_of S) (valid y goes S there) (account y).mark (steps_in given ++ Release n job ∷ [])
+              (
+                steps_in more,
+                begins S there ∙ ap (λ es. steps_in given ++ es) front
+                    ∙ sym (append_assoc (steps_in given) (Release n job ∷ []) (steps_in more)),
+              ),
+          ap (λ (p : Roll). length p.jobs) (roll_more (steps_in given) (Release n job)),
+          length-append (roll_of (steps_in given)).jobs (released n job ∷ []),
+          ap (λ (p : Roll). length p.jobs) it,
+        )
 
 -- ---- a line that is given
 
-module _ (k l : Kept) (was now : Work) (lines : List (List ℕ)) (it : Lists k was lines) (same : l.room ≡ k.room) where
-  -- the room that there is
-  room_left : (e : Event) → l.roll ≡ with_event k.roll e → AdmitsBy true was now (Some (Step e)) → IsAdmitting now
-      → HasLine l
-  room_left (Release n job) is admits here = absurd ((admits refl).1 here)
-  room_left e is admits here = line_left k l e (λ n job clash. absurd (let no : e ≡ Release n job = clash in cc)) is
-      same (it.room (admits here))
-
-  same_room : l.roll ≡ k.roll → HasLine k → HasLine l
-  same_room is room = omega (arith, ap (λ (p : Roll). length p.jobs) is, same, room)
-
-  none_more : (t : List ℕ) → step_of_text t ≡ None → l.roll ≡ k.roll → IsRollOf (steps_in (lines ++ t ∷ [])) l
-  none_more t none is = is ∙ it.roll ∙ ap roll_of (sym (filter_map-append step_of_text lines (t ∷ [])
-      ∙ ap (λ o. steps_in lines ++ cons_option o []) none ∙ append-nil (steps_in lines)))
-
-  -- with the line, the roster lists the lines
-  pub one_listed : (out : DueLine) → HasNumerals out → l.roll ≡ with_line k.roll out
-      → AdmitsBy true was now (Some out) → Lists l now (lines ++ out_text out ∷ [])
-  one_listed (Step e) short is admits = record {
-    roll = more_read k l (steps_in lines) e it.roll is
-        ∙ ap roll_of (sym (filter_map-append step_of_text lines (text_of e ∷ [])
-        ∙ ap (λ o. steps_in lines ++ cons_option o []) (step_back e short)));
-    room = room_left e is admits;
-  }
-  one_listed out short is admits =
-      record { roll = none_more (out_text out) refl is; room = λ here. same_room is (it.room (admits here)) }
-
--- where all was given, the roster lists what is due
-pub none_left : {k : Kept} {was now : Work} (given left all : List (List ℕ)) → left ≡ [] → all ≡ given ++ left
-    → Lists k was given → AdmitsBy true was now None → Lists k now all
-none_left {k = k} given left all none due it admits = record {
-  roll = subst (λ ls. IsRollOf (steps_in ls) k)
-      (sym (due ∙ ap (λ ls. given ++ ls) none ∙ append-nil given)) it.roll;
-  room = λ here. it.room (admits here);
-}
-
--- a release is given only where there is room for its job
-pub admits_there : (was now : Work) (out : DueLine) (n : ℕ) (job : JobFacts) → out ≡ Step (Release n job)
-    → AdmitsBy true was now (Some out) → IsAdmitting was
-admits_there was now out n job is admits = (subst (λ o. AdmitsBy true was now (Some o)) is admits refl).0
-
--- there were few takes
-pub few_read : (k : Kept) (y : List ℕ) → is_open (account y) ≡ true → (given left : List (List ℕ))
-    → due_lines (account y) ≡ given ++ left → IsRollOf (steps_in given) k → k.roll.takes < 2 ^ 64 - 1
-few_read k y goes given left due it =
-    subst (λ (p : Roll). p.takes < 2 ^ 64 - 1) (sym it) (few_listed y goes given left due)
+-- with the line, the roster was kept from the lines
+pub one_listed : (k l : Kept) (lines : List (List ℕ)) → IsRollOf (steps_in lines) k → (out : DueLine)
+    → HasNumerals out → l.roll ≡ with_line k.roll out → IsRollOf (steps_in (lines ++ out_text out ∷ [])) l
+one_listed k l lines it out short is = by out short is
+    ∙ ap roll_of (sym (filter_map-append step_of_text lines (out_text out ∷ []))) where
+      by : (out : DueLine) → HasNumerals out → l.roll ≡ with_line k.roll out
+          → l.roll ≡ roll_of (steps_in lines ++ steps_in (out_text out ∷ []))
+      by (Step e) short is = more_read k l (steps_in lines) e it is
+          ∙ ap (λ o. roll_of (steps_in lines ++ cons_option o [])) (sym (step_back e short))
+      by _ short is = is ∙ it ∙ ap roll_of (sym (append-nil (steps_in lines)))

@@ -9,7 +9,7 @@ use Rattle.ready_server.proofs.Stepping.{rests_serves}
 use Rattle.feed_words.specs.serve.Listing.{steps_in}
 use Rattle.feed_words.proofs.serve.Listing.{settled_back}
 use Rattle.event_feed.specs.Kept as feed
-use Rattle.lane_server.specs.Lane.{IsQuiet, Stands as LaneStands, IsAdmitting}
+use Rattle.lane_server.specs.Lane.{IsQuiet, Stands as LaneStands}
 use Rattle.lane_server.specs.Feeding.{FeedRests}
 use Rattle.lane_server.specs.Spending.{HasPaid}
 use Rattle.lane_server.specs.declared.feed.Feed.{Feed}
@@ -49,12 +49,9 @@ listed_on c now may s k i mark it l is f there rests spent = record {
         (rests_serves s (instance_of it.session) (Mark mark) it.rests.rests)))));
     paid = subst (λ (l : Lane). HasPaid l.server c.start now) (sym (there ∙ is)) spent;
   };
-  lists = λ goes. record {
-    roll = subst (λ y. roster.IsRollOf (steps_in (due_lines (account y))) k) (sym (append-nil c.feed))
-        (it.rests.read ∙ ap (λ m. roster.roll_of (settled (instance_of it.session) m)) it.marked
-        ∙ ap roster.roll_of (sym (settled_back c.feed c.goes_on it.session it.named)));
-    room = λ here. absurd (subst (λ (l : Lane). IsAdmitting l.work) (there ∙ is) here);
-  };
+  lists = λ goes. subst (λ y. roster.IsRollOf (steps_in (due_lines (account y))) k) (sym (append-nil c.feed))
+      (it.rests.read ∙ ap (λ m. roster.roll_of (settled (instance_of it.session) m)) it.marked
+      ∙ ap roster.roll_of (sym (settled_back c.feed c.goes_on it.session it.named)));
 }
 
 -- ---- it is paused

@@ -1,5 +1,5 @@
 -- A feed that is served, as a talk.
-use Rattle.std.proofs.Common.{◌≡◌, ◌<◌, ◌^◌, ◌-◌, ℕ, suc, List, [], ◌∷◌, ◌++◌, length, map, take, drop, refl, sym, ap, ◌∙◌}
+use Rattle.std.proofs.Common.{◌≡◌, ◌<◌, ◌≤◌, ◌^◌, ◌-◌, ℕ, suc, List, [], ◌∷◌, ◌++◌, length, map, take, drop, refl, sym, ap, ◌∙◌}
 use Rattle.std.proofs.Common.{arith, append_assoc, append-nil, length-append, Bool, true, false, cond, inl, inr, Result}
 use Rattle.std.proofs.Common.{Ok, Err, Option, subst, OnOk, take-append-drop}
 use Rattle.std.proofs.lemmas.List.{length-map}
@@ -24,14 +24,13 @@ use Rattle.dialogue.proofs.Behind as beyond
 use Rattle.dialogue.specs.declared.talker.Stop.{Stop}
 use Rattle.dialogue.specs.declared.talker.Stop.TheVariants.{NoMemory, Unwritten}
 use Rattle.dover_port.specs.Moves.{Move}
-use Rattle.lane_server.specs.Lane.{IsDeclared, IsFaulty, IsAdmitting}
+use Rattle.lane_server.specs.Lane.{IsDeclared, IsFaulty}
 use Rattle.lane_server.specs.Feeding.{FeedStands, Takes}
 use Rattle.lane_server.specs.Spending.{HasPaid}
 use Rattle.lane_server.specs.declared.feed.Feed.{Feed}
 use Rattle.lane_server.proofs.Adding.{open_stands, opens_by}
 use Rattle.lane_server.proofs.Few.{owes_few}
-use Rattle.lane_server.proofs.Owing.{admitting_declared}
-use Rattle.ready_server.specs.Roster.{Kept, IsRollOf, HasLine}
+use Rattle.ready_server.specs.Roster.{Kept, IsRollOf}
 use Rattle.feed_words.specs.serve.Listing.{steps_in}
 use Rattle.dover_model.proofs.runs.Spending.{few_more}
 use Rattle.feed_words.specs.serve.Keeping.{Call, due_behind, serve_talk, Costs, IsGiving, IsListing}
@@ -49,6 +48,10 @@ answers_as : (at other : AtEnd) (x y : List ℕ) (ended : Bool)
 answers_as at other x y ended done refused Done text it = done text it
 answers_as at other x y ended done refused Refused text it = refused text it
 answers_as at other x y ended done refused _ text it = absurd it
+
+-- where there was no room for so many, some are wanted
+pub wanted : (n room : ℕ) → (n ≤ room → ⊥) → 0 < n
+wanted n room full = omega (arith, full)
 
 -- ---- bytes behind the end of a feed
 
@@ -161,7 +164,7 @@ module _ (c : Call) where
     module _ (piece : List ℕ) (n : ℕ) (it : Takes feed (c.feed ++ x) piece (Ok n)) where
       pub taken_listed : (k l : Kept) → HasPaid feed.lane.server c.start steps → Costs c steps x
           → IsRollOf (steps_in (due_lines (account (c.feed ++ x)))) k → l.roll ≡ k.roll
-          → (IsAdmitting feed.lane.work → HasLine l)
+          → admitted_in (account ((c.feed ++ x) ++ take n piece)) ≤ l.room
           → TakesBy {E = Lacking} (serve_talk Pause c.feed) (IsListing c feed l steps) (Costs c steps) x piece (Ok n)
       unfolding taken
       taken_listed k l paid costs roll alike room =
@@ -175,13 +178,14 @@ module _ (c : Call) where
                 giving = base.2.2;
                 given = due_lines (account (c.feed ++ x));
                 due = ap (λ z. due_lines (account z)) (joins x (take n piece)) ∙ it.2.1;
-                lists = λ goes. record { roll = alike ∙ roll; room = room };
+                room = λ line more is. subst (λ z. admitted_in (account z) ≤ l.room) (sym (joins x (take n piece))) room;
+                lists = λ goes. alike ∙ roll;
               },
             ),
           )
 
       -- where there was none, the ratio was declared
-      pub lacks_room : (e : Lacking) → Costs c steps x → IsAdmitting feed.lane.work
+      pub lacks_room : (e : Lacking) → Costs c steps x → IsDeclared (account ((c.feed ++ x) ++ take n piece))
           → TakesBy (serve_talk Pause c.feed) (λ y parts. ⊥) (Costs c steps) x piece (Err e)
       lacks_room e costs here = (
         (
@@ -189,8 +193,7 @@ module _ (c : Call) where
           subst (λ z. IsDeclared (account z))
               (append_assoc (c.feed ++ x) (take n piece) (drop n piece)
               ∙ ap (λ l. (c.feed ++ x) ++ l) (take-append-drop n piece) ∙ sym (joins x piece))
-              (declared_front ((c.feed ++ x) ++ take n piece) (drop n piece)
-              (admitting_declared feed.lane (lines_of ((c.feed ++ x) ++ take n piece)) it.2.0 it.2.2.lane here)),
+              (declared_front ((c.feed ++ x) ++ take n piece) (drop n piece) here),
         ),
         costs_more steps x piece costs,
       )

@@ -1,13 +1,13 @@
 -- What is kept of a feed that is served on behind bytes that were read before.
-use Rattle.std.specs.Prelude.{◌≡◌, ℕ, List, ◌∷◌, ◌++◌, [], length, drop, map, true, refl}
+use Rattle.std.specs.Prelude.{◌≡◌, ◌≤◌, ℕ, List, ◌∷◌, ◌++◌, [], length, drop, map, true, refl}
 use Rattle.dover_model.specs.Common.{due, due_lines, account, is_open, CostsAtMost}
 use Rattle.event_feed.specs.Answers.{admitted_in}
 use Rattle.dialogue.specs.Talk.{Talk, talk_behind}
 use Rattle.lane_server.specs.Feeding.{FeedStands, FeedRests}
 use Rattle.lane_server.specs.Spending.{HasPaid}
 use Rattle.lane_server.specs.declared.feed.Feed.{Feed}
-use Rattle.ready_server.specs.Roster.{Kept}
-use Rattle.feed_words.specs.serve.Listing.{Lists}
+use Rattle.ready_server.specs.Roster.{Kept, IsRollOf}
+use Rattle.feed_words.specs.serve.Listing.{steps_in}
 use Rattle.feed_words.specs.serve.Talk.{feed_talk}
 use Rattle.feed_words.specs.declared.serve.at_end.AtEnd.{AtEnd}
 
@@ -46,15 +46,18 @@ pub record IsReady (c : Call) (feed : Feed) (steps : ℕ) (x : List ℕ) : Type 
   pub rests : FeedRests feed (c.feed ++ x)
   pub paid : HasPaid feed.lane.server c.start steps
 
--- The same of a feed that may pause: while it goes on, its roster lists the lines that were given for it.
+-- The same of a feed that may pause: while it goes on, its roster was kept from the lines that were given for it. It
+-- has room for the jobs that are admitted, where more lines are left.
 pub record IsListing (c : Call) (feed : Feed) (roster : Kept) (steps : ℕ) (x : List ℕ) (parts : List (List ℕ)) : Type 0
   where
     pub giving : IsGiving c feed steps x parts
     pub given : List (List ℕ)
     pub due : due_lines (account (c.feed ++ x)) ≡ given ++ giving.left
-    pub lists : is_open (account (c.feed ++ x)) ≡ true → Lists roster feed.lane.work given
+    pub room : (line : List ℕ) (more : List (List ℕ)) → giving.left ≡ line ∷ more
+        → admitted_in (account (c.feed ++ x)) ≤ roster.room
+    pub lists : is_open (account (c.feed ++ x)) ≡ true → IsRollOf (steps_in given) roster
 
 -- all was given
 pub record IsListed (c : Call) (feed : Feed) (roster : Kept) (steps : ℕ) (x : List ℕ) : Type 0 where
   pub ready : IsReady c feed steps x
-  pub lists : is_open (account (c.feed ++ x)) ≡ true → Lists roster feed.lane.work (due_lines (account (c.feed ++ x)))
+  pub lists : is_open (account (c.feed ++ x)) ≡ true → IsRollOf (steps_in (due_lines (account (c.feed ++ x)))) roster

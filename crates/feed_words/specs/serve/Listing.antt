@@ -1,4 +1,4 @@
--- The roster of a feed that may pause, kept from the lines that are given for it.
+-- The steps among the lines that are given for a feed, of which a roster is kept.
 use Rattle.std.specs.Prelude.{ℕ, List, [], ◌∷◌, Option, Some, None, codes, filter_map, option_and_then}
 use Rattle.std.specs.Option.{option_or}
 use Rattle.dover_model.specs.declared.events.Event.{Event}
@@ -6,11 +6,7 @@ use Rattle.dover_model.specs.declared.events.Event.TheVariants.{Release, Run, Pr
 use Rattle.dover_model.specs.Common.{job_of_numbers, fields_of, numbers_after}
 use Rattle.event_feed.specs.declared.due_line.DueLine.{DueLine}
 use Rattle.event_feed.specs.declared.due_line.DueLine.TheVariants.{Step}
-use Rattle.lane_server.specs.Lane.{IsAdmitting}
-use Rattle.lane_server.specs.declared.lane.Work.{Work}
-use Rattle.ready_server.specs.Roster.{Kept, Roll, with_event, IsRollOf, HasLine}
-
--- ---- the steps among lines
+use Rattle.ready_server.specs.Roster.{Roll, with_event}
 
 -- a step of these numbers
 abbrev pub of_two : (ℕ → ℕ → Event) → List ℕ → Option Event
@@ -48,14 +44,7 @@ step_of_text line = step_of_fields (fields_of line)
 abbrev pub steps_in : List (List ℕ) → List Event
 steps_in lines = filter_map step_of_text lines
 
--- ---- a roster
-
 -- a roll after a line that is given
 abbrev pub with_line : Roll → DueLine → Roll
 with_line p (Step e) = with_event p e
 with_line p _ = p
-
--- The roster was kept from the steps among these lines, and where a job is still to be admitted, has room for it.
-pub record Lists (roster : Kept) (work : Work) (lines : List (List ℕ)) : Type 0 where
-  pub roll : IsRollOf (steps_in lines) roster
-  pub room : IsAdmitting work → HasLine roster

@@ -1,9 +1,8 @@
 //! What the reading loop calls: a feed that is served, and may be paused.
-ghost use Rattle.std.specs.Prelude.{◌≡◌, ◌<◌, ◌-◌, ◌^◌, ℕ, [], true, OnOk, OnErr};
+ghost use Rattle.std.specs.Prelude.{◌≡◌, ◌<◌, ◌-◌, ◌^◌, ℕ, [], true};
 ghost use Rattle.dover_model.specs.JobFacts.{JobFacts};
 ghost use Rattle.dover_model.specs.declared.events.Event.TheVariants.{Release};
 ghost use Rattle.event_feed.specs.declared.due_line.DueLine.TheVariants.{Step};
-ghost use Rattle.lane_server.specs.Lane.{IsAdmitting};
 ghost use Rattle.ready_server.specs.Roster.{HasLine};
 ghost use Rattle.ready_server.specs.Serving.{HasPaid};
 ghost use Rattle.snapshot.specs.Snapshot.{MayPause};
@@ -67,18 +66,6 @@ impl<L: Ledger> Pausing<L> {
     }
 }
 
-/// Makes room in the roster for a job that is still to be admitted.
-fn make_room(roster: &mut Roster, lane: &Lane) -> Result<(), Memory>
-    ensures same { roster.new.roll ≡ roster.old.roll }
-    ensures room { OnOk result (IsAdmitting lane.now.work → HasLine roster.new) }
-    ensures asks { OnErr result (IsAdmitting lane.now.work) }
-{
-    if !lane.is_admitting() {
-        return Ok(());
-    }
-    roster.make_room()
-}
-
 /// The roster reads a line that is given, while the feed goes on.
 fn read_into(roster: &mut Roster, goes_on: bool, out: &DueLine)
     requires few { goes_on ≡ true → roster.old.roll.takes < 2 ^ 64 - 1 }
@@ -117,7 +104,7 @@ impl<L: Ledger> Talker for Pausing<L> {
             Ok(count) => count,
             Err(error) => return Err(error),
         };
-        match make_room(&mut self.roster, self.serving.feed.lane()) {
+        match self.roster.make_room(self.serving.feed.lane().most_jobs()) {
             Ok(()) => Ok(count),
             Err(error) => Err(error),
         }

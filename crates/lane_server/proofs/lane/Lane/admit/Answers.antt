@@ -3,13 +3,12 @@ use Rattle.dover_model.specs.Common.{instance_of, is_full, account_of_lines, May
 use Rattle.dover_model.specs.declared.horizon.Horizon.TheVariants.{Mark}
 use Rattle.event_feed.specs.Kept as feed
 use Rattle.event_feed.specs.DueLines.{out_text}
-use Rattle.lane_server.specs.Lane.{Admitting, Running, Stands, IsAdmitting}
+use Rattle.lane_server.specs.Lane.{Admitting, Running, Stands}
 use Rattle.lane_server.specs.Spending.{HasPaid}
 use Rattle.lane_server.specs.declared.lane.Work.TheVariants.{Run, Admit}
 use Rattle.event_feed.specs.declared.due_line.DueLine.{DueLine}
 use Rattle.event_feed.proofs.Accepting.{accepted, passed}
 use Rattle.lane_server.proofs.Owing.{lane_owes, lane_stands, lane_turns, lane_rests, work_intake, admit_steps}
-use Rattle.lane_server.proofs.Owing.{never_released, plain_step, admitted_step}
 use Rattle.lane_server.proofs.Offering.{before_admission, at_admission, at_passing, job_room}
 use Rattle.ready_server.specs.Serving.{Serves, Rests}
 use Rattle.ready_server.proofs.Stepping.{few_ready}
@@ -155,22 +154,3 @@ pub returns-then-is_full-clause-paid : goal.returns-then-is_full-clause-paid
 returns-then-is_full-clause-paid g c = λ start paid. subst (λ l. HasPaid l.server start c.step.new.comparisons)
     (sym c.pass.ensures.lane)
     (c.in_default-step.ensures.paid start (subst (λ o. HasPaid o start c.args.comparisons.now) c.in-Some.is paid))
-
-pub returns-in-Some-step-clause-admits : goal.returns-in-Some-step-clause-admits
-returns-in-Some-step-clause-admits g c =
-    let (ls, rest, it) = c.requires.stands in
-    let owes : Admitting c.args.job c.in-Some.server (account_of_lines ls) rest =
-    lane_owes c.args.self.now (Admit c.args.job) c.in-Some.server (account_of_lines ls) rest c.requires.work
-    c.in-Some.is it.owes in
-    let may = subst (λ m. MayFollow owes.from (Mark m)) (sym c.release.ensures.is) owes.follows in
-    plain_step c.args.self.now.is_open c.args.self.now.work c.args.self.now.work c.in-Some-step.event (λ is. is)
-    (λ goes. never_released c.in-Some.server c.step.new.self (instance_of owes.session) owes.from c.release.result
-    owes.events c.in-Some-step.event owes.served may
-    (c.in-Some-step.ensures.gives (instance_of owes.session) owes.from owes.events owes.served may))
-
-pub returns-clause-admits : goal.returns-clause-admits
-returns-clause-admits g c = admitted_step c.args.self.now.is_open c.args.self.now.work
-    (Run (Mark c.release.result)) c.admit-event.result (subst IsAdmitting (sym c.requires.work) tt) (λ is. absurd is)
-
-pub returns-then-is_full-clause-admits : goal.returns-then-is_full-clause-admits
-returns-then-is_full-clause-admits g c = rw (c.pass.ensures.out, c.pass.ensures.lane) (λ is. absurd is)

@@ -1,12 +1,10 @@
-use Rattle.std.proofs.Common.{◌≡◌, [], sym, subst, refl, ◌∙◌}
-use Rattle.dover_model.specs.declared.events.Event.TheVariants.{Complete, Release}
+use Rattle.std.proofs.Common.{[], sym, subst, refl}
 use Rattle.dover_model.specs.Common.{instance_of, account_of_lines}
 use Rattle.dover_model.specs.declared.horizon.Horizon.TheVariants.{Mark}
 use Rattle.lane_server.specs.Lane.{Finishing}
 use Rattle.lane_server.specs.Spending.{HasPaid}
 use Rattle.lane_server.specs.declared.lane.Work.TheVariants.{Run, Finish}
 use Rattle.lane_server.proofs.Owing.{lane_owes, lane_stands, lane_turns, lane_rests, work_intake}
-use Rattle.lane_server.proofs.Owing.{never_released, plain_step}
 use Rattle.lane_server.proofs.Finishing.{before_finish, at_finish, at_refusal}
 use Rattle.ready_server.specs.Serving.{Rests}
 use Rattle.lane_server.proofs.lane.Lane.finish.Goals as goal
@@ -91,28 +89,3 @@ returns-in-Some-finish-clause-paid g c = λ start paid. c.in-Some-finish.ensures
 pub returns-in-None-clause-paid : goal.returns-in-None-clause-paid
 returns-in-None-clause-paid g c = λ start paid. c.in-None.ensures.paid start c.step.new.comparisons
     (c.in_default-step.ensures.paid start (subst (λ o. HasPaid o start c.args.comparisons.now) c.in-Some.is paid))
-
-pub returns-in-Some-step-clause-admits : goal.returns-in-Some-step-clause-admits
-returns-in-Some-step-clause-admits g c =
-    let (ls, rest, it) = c.requires.stands in
-    let owes : Finishing c.args.at c.args.number c.in-Some.server (account_of_lines ls) rest =
-    lane_owes c.args.self.now (Finish c.args.at c.args.number) c.in-Some.server (account_of_lines ls) rest
-    c.requires.work c.in-Some.is it.owes in
-    plain_step c.args.self.now.is_open c.args.self.now.work c.args.self.now.work c.in-Some-step.event (λ is. is)
-    (λ goes. never_released c.in-Some.server c.step.new.self (instance_of owes.session) owes.from c.args.at
-    owes.events c.in-Some-step.event owes.served owes.follows
-    (c.in-Some-step.ensures.gives _ owes.from owes.events owes.served owes.follows))
-
-pub returns-in-Some-finish-clause-admits : goal.returns-in-Some-finish-clause-admits
-returns-in-Some-finish-clause-admits g c =
-    let (ls, rest, it) = c.requires.stands in
-    let owes : Finishing c.args.at c.args.number c.in-Some.server (account_of_lines ls) rest =
-    lane_owes c.args.self.now (Finish c.args.at c.args.number) c.in-Some.server (account_of_lines ls) rest
-    c.requires.work c.in-Some.is it.owes in
-    let there = c.in_default-step.ensures.gives _ owes.from owes.events owes.served owes.follows in
-    let right = c.in-Some-finish.ensures.finishes _ there.1 in
-    plain_step c.args.self.now.is_open c.args.self.now.work (Run (Mark c.args.at)) c.in-Some-finish.event (λ is. absurd is)
-    (λ goes n job is. absurd (let clash : Complete c.args.at c.args.number ≡ Release n job = sym right.2 ∙ is in cc))
-
-pub returns-in-None-clause-admits : goal.returns-in-None-clause-admits
-returns-in-None-clause-admits g c = λ is. absurd is

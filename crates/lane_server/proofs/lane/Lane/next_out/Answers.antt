@@ -1,7 +1,4 @@
-use Rattle.std.proofs.Common.{subst}
-use Rattle.lane_server.specs.Lane.{GivesFault}
-use Rattle.lane_server.specs.declared.lane.Work.TheVariants.{Nothing}
-use Rattle.lane_server.proofs.Owing.{lane_empty, lane_given, given_line}
+use Rattle.lane_server.proofs.Owing.{lane_empty, lane_given}
 use Rattle.lane_server.proofs.lane.Lane.next_out.Goals as goal
 
 pub run-requires-clause-work : goal.run-requires-clause-work
@@ -51,20 +48,3 @@ returns-in-Finish-clause-gives g c = c.finish.ensures.gives
 
 pub returns-in-Finish-clause-paid : goal.returns-in-Finish-clause-paid
 returns-in-Finish-clause-paid g c = c.finish.ensures.paid
-
-pub returns-in-Nothing-clause-admits : goal.returns-in-Nothing-clause-admits
-returns-in-Nothing-clause-admits g c = λ is. is
-
-pub returns-in-Give-clause-admits : goal.returns-in-Give-clause-admits
-returns-in-Give-clause-admits g c =
-    let (ls, rest, it) = c.requires in
-    given_line c.args.self.now.is_open c.args.self.now.work Nothing c.in-Give.out ls (subst (λ w. GivesFault w ls) c.in-Give.is it.names) (λ is. absurd is)
-
-pub returns-in-Run-clause-admits : goal.returns-in-Run-clause-admits
-returns-in-Run-clause-admits g c = c.run.ensures.admits
-
-pub returns-in-Admit-clause-admits : goal.returns-in-Admit-clause-admits
-returns-in-Admit-clause-admits g c = c.admit.ensures.admits
-
-pub returns-in-Finish-clause-admits : goal.returns-in-Finish-clause-admits
-returns-in-Finish-clause-admits g c = c.finish.ensures.admits

@@ -1,10 +1,9 @@
-use Rattle.std.proofs.Common.{subst, sym, ◌∙◌}
+use Rattle.std.proofs.Common.{subst}
 use Rattle.dover_model.specs.Feed.{account_of_lines}
 use Rattle.lane_server.specs.Lane.{Running}
 use Rattle.lane_server.specs.Spending.{HasPaid}
 use Rattle.lane_server.specs.declared.lane.Work.TheVariants.{Run}
-use Rattle.lane_server.proofs.Owing.{run_gives, run_none, lane_owes, lane_stands, lane_rests, work_intake, plain_step}
-use Rattle.lane_server.proofs.Owing.{run_released}
+use Rattle.lane_server.proofs.Owing.{run_gives, run_none, lane_owes, lane_stands, lane_rests, work_intake}
 use Rattle.lane_server.proofs.lane.Lane.run.Goals as goal
 
 pub step-requires : goal.step-requires
@@ -54,17 +53,3 @@ returns-in-Some-step-clause-paid g c = λ start paid. c.in-Some-step.ensures.pai
 pub returns-in-None-clause-paid : goal.returns-in-None-clause-paid
 returns-in-None-clause-paid g c = λ start paid. c.in-None.ensures.paid start
     (subst (λ o. HasPaid o start c.args.comparisons.now) c.in-Some.is paid)
-
-pub returns-in-Some-step-clause-admits : goal.returns-in-Some-step-clause-admits
-returns-in-Some-step-clause-admits g c =
-    let (ls, rest, it) = c.requires.stands in
-    let owes : Running c.args.to c.in-Some.server (account_of_lines ls) rest =
-    lane_owes c.args.self.now (Run c.args.to) c.in-Some.server (account_of_lines ls) rest c.requires.work c.in-Some.is
-    it.owes in
-    plain_step c.args.self.now.is_open c.args.self.now.work c.args.self.now.work c.in-Some-step.event (λ is. is)
-    (λ goes. run_released c.args.to c.in-Some.server c.step.new.self (account_of_lines ls) rest owes
-    c.in-Some-step.event (c.in-Some-step.ensures.gives _ owes.from owes.events owes.served owes.follows)
-    (sym it.opened ∙ goes))
-
-pub returns-in-None-clause-admits : goal.returns-in-None-clause-admits
-returns-in-None-clause-admits g c = λ is. absurd is

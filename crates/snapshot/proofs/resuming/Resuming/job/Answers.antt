@@ -14,21 +14,18 @@ use Rattle.snapshot.proofs.resuming.Resuming.job.Goals as goal
 
 pub hand_job-requires-clause-numerals : goal.hand_job-requires-clause-numerals
 hand_job-requires-clause-numerals g c =
-    let h = c.requires.reading.1.0 in let tasks = c.requires.reading.1.1 in
-    job_short h tasks c.requires.reading.0 c.requires.reading.1.2 c.args.self.now c.requires.reading.1.3 c.args.line.now
-    (job_due h tasks c.requires.reading.0 c.requires.reading.1.2 c.args.self.now c.requires.reading.1.3
-    c.requires.more)
+    let (ls, (h, tasks, read, it)) = c.requires.reading in
+    job_short h tasks ls read c.args.self.now it c.args.line.now
+    (job_due h tasks ls read c.args.self.now it c.requires.more)
     (task_in c.in-Some.state) (sym c.read_state.ensures ∙ ap (option_map task_in) c.in-Some.is)
 
 pub hand_job-requires-clause-fed : goal.hand_job-requires-clause-fed
 hand_job-requires-clause-fed g c =
-    let h = c.requires.reading.1.0 in let tasks = c.requires.reading.1.1 in (
+    let (ls, (h, tasks, read, it)) = c.requires.reading in (
       h,
       tasks,
-      c.requires.reading.1.3.fed,
-      room h tasks c.requires.reading.0 c.requires.reading.1.2 c.args.self.now c.requires.reading.1.3
-          (job_due h tasks c.requires.reading.0 c.requires.reading.1.2 c.args.self.now c.requires.reading.1.3
-          c.requires.more),
+      it.fed,
+      room h tasks ls read c.args.self.now it (job_due h tasks ls read c.args.self.now it c.requires.more),
     )
 
 pub returns-in_default-clause-answers : goal.returns-in_default-clause-answers
@@ -47,8 +44,7 @@ returns-in_default-hand_job-clause-answers g c = λ ls it.
 
 pub admit-requires : goal.admit-requires
 admit-requires g c =
-    let ls = c.requires.reading.0 in let h = c.requires.reading.1.0 in let tasks = c.requires.reading.1.1 in
-    let read = c.requires.reading.1.2 in let it = c.requires.reading.1.3 in
+    let (ls, (h, tasks, read, it)) = c.requires.reading in
     let more = job_due h tasks ls read c.args.self.now it c.requires.more in
     let some = c.in-Some-hand_job.ensures.some h tasks it.fed (room h tasks ls read c.args.self.now it more) in
     let spelled = sym c.read_state.ensures ∙ ap (option_map task_in) c.in-Some.is in (

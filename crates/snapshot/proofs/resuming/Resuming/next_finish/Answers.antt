@@ -4,7 +4,6 @@ use Rattle.std.proofs.lemmas.Option.{slice_get_past, slice_get_read}
 use Rattle.dover_model.specs.declared.events.Task.{Task}
 use Rattle.dover_model.specs.declared.events.Version.{Version}
 use Rattle.dover_model.specs.Session.{may_finish_early}
-use Rattle.dover_model.proofs.lists.Members.{some_same}
 use Rattle.snapshot.specs.declared.resuming.Stance.{Stance}
 use Rattle.snapshot.specs.Kept.{early_behind, next_early}
 use Rattle.snapshot.proofs.resuming.Resuming.next_finish.Goals as goal

@@ -1,8 +1,10 @@
-use Rattle.std.proofs.Common.{◌≡◌, ◌++◌, ◌∷◌, [], ℕ, ap, sym, ◌∙◌, map, refl, subst, Some, None, append_assoc}
-use Rattle.dover_model.specs.Common.{lines_of}
-use Rattle.event_feed.specs.DueLines.{out_text}
-use Rattle.lane_server.specs.Lane.{AdmitsBy}
-use Rattle.feed_words.proofs.serve.Listing.{few_read, admits_there, one_listed, none_left}
+use Rattle.std.proofs.Common.{◌≡◌, ◌≤◌, ◌++◌, ◌∷◌, [], ap, sym, ◌∙◌, map, refl, subst, append_assoc, append-nil}
+use Rattle.dover_model.specs.Common.{account, lines_of}
+use Rattle.event_feed.specs.Answers.{admitted_in}
+use Rattle.event_feed.specs.DueLines.{out_text, HasNumerals}
+use Rattle.ready_server.specs.Roster.{IsRollOf}
+use Rattle.feed_words.specs.serve.Listing.{steps_in}
+use Rattle.feed_words.proofs.serve.Listing.{few_listed, room_listed, one_listed}
 use Rattle.feed_words.proofs.serve.pausing.PausingTalker.next_part.Goals as goal
 
 pub next_out-requires : goal.next_out-requires
@@ -14,17 +16,15 @@ read_into-requires-clause-few g c = λ on.
     let (a, x, rest, at) = c.requires in
     let given = c.in-Some.ensures.gives (a.feed ++ x) at.giving.left at.giving.stands in
     let goes = sym ((rw c.lane.ensures at c.goes_on-goes_on.ensures) (lines_of (a.feed ++ x)) given.0 given.2.lane) ∙ on in
-    few_read c.args.self.now.roster (a.feed ++ x) goes at.given at.giving.left at.due (at.lists goes).roll
+    few_listed c.args.self.now.roster (a.feed ++ x) goes at.given at.giving.left at.due (at.lists goes)
 
 pub read_into-requires-clause-room : goal.read_into-requires-clause-room
 read_into-requires-clause-room g c n job on is =
     let (a, x, rest, at) = c.requires in
     let given = c.in-Some.ensures.gives (a.feed ++ x) at.giving.left at.giving.stands in
     let goes = sym ((rw c.lane.ensures at c.goes_on-goes_on.ensures) (lines_of (a.feed ++ x)) given.0 given.2.lane) ∙ on in
-    (at.lists goes).room (admits_there c.args.self.now.serving.feed.lane.work c.next_out.new.self.lane.work
-    c.in-Some.out n job is
-    (subst (λ b. AdmitsBy b c.args.self.now.serving.feed.lane.work c.next_out.new.self.lane.work (Some c.in-Some.out))
-    (at.giving.stands.lane.opened ∙ goes) c.in-Some.ensures.admits))
+    room_listed c.args.self.now.roster (a.feed ++ x) goes at.given at.giving.left at.due (at.lists goes)
+    (at.room _ _ given.1) n job given.0 (given.1 ∙ ap (λ o. out_text o ∷ given.0) is) (subst HasNumerals is given.3)
 
 pub write_next-requires : goal.write_next-requires
 write_next-requires g c =
@@ -47,12 +47,12 @@ returns-in-Some g c = record {
           given = at.given ++ out_text c.in-Some.out ∷ [];
           due = at.due ∙ ap (λ ls. at.given ++ ls) given.1
               ∙ sym (append_assoc at.given (out_text c.in-Some.out ∷ []) given.0);
-          lists = λ goes.
-              one_listed c.args.self.now.roster c.read_into.new.roster c.args.self.now.serving.feed.lane.work
-              c.next_out.new.self.lane.work at.given (at.lists goes) c.read_into.ensures.room c.in-Some.out given.3
-              (c.read_into.ensures.roll ((rw c.lane.ensures at c.goes_on-goes_on.ensures) (lines_of (a.feed ++ x)) given.0 given.2.lane ∙ goes))
-              (subst (λ b. AdmitsBy b c.args.self.now.serving.feed.lane.work c.next_out.new.self.lane.work
-              (Some c.in-Some.out)) (at.giving.stands.lane.opened ∙ goes) c.in-Some.ensures.admits);
+          room = λ line more is. subst (λ m. admitted_in (account (a.feed ++ x)) ≤ m) (sym c.read_into.ensures.room)
+              (at.room _ _ given.1);
+          lists = λ goes. one_listed c.args.self.now.roster c.read_into.new.roster at.given (at.lists goes)
+              c.in-Some.out given.3
+              (c.read_into.ensures.roll
+              ((rw c.lane.ensures at c.goes_on-goes_on.ensures) (lines_of (a.feed ++ x)) given.0 given.2.lane ∙ goes));
         },
       );
 }
@@ -64,9 +64,8 @@ returns-in-None g c = record {
         at.giving.parts_are ∙ ap (map (λ line. line ++ 10 ∷ [])) given.0,
         record {
           ready = record { rests = given.1; paid = c.in-None.ensures.paid a.start at.giving.paid };
-          lists = λ goes. none_left at.given at.giving.left _ given.0 at.due (at.lists goes)
-              (subst (λ b. AdmitsBy b c.args.self.now.serving.feed.lane.work c.next_out.new.self.lane.work None)
-              (at.giving.stands.lane.opened ∙ goes) c.in-None.ensures.admits);
+          lists = λ goes. subst (λ ls. IsRollOf (steps_in ls) c.args.self.now.roster)
+              (sym (at.due ∙ ap (λ ls. at.given ++ ls) given.0 ∙ append-nil at.given)) (at.lists goes);
         },
       );
 }
