@@ -10,7 +10,7 @@ use Rattle.dover_model.specs.declared.events.Event.{Event}
 use Rattle.dover_model.specs.declared.events.Event.TheVariants.{Run, Preempt, Take}
 use Rattle.dover_model.specs.Common.{Prints, gets, tick_of_event}
 use Rattle.dover_model.proofs.lists.Members.{by_bool}
-use Rattle.run_record.proofs.intervals.Charges.{item_next}
+use Rattle.run_record.proofs.intervals.Counted.{item_next}
 use Rattle.run_record.proofs.intervals.Sums.{capped_small}
 use Rattle.run_reports.specs.report.Starting.{starts_in, never, once_more, with_start, with_earlier}
 use Rattle.run_reports.specs.declared.report.starting.Starts.{Starts}

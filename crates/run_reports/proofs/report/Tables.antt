@@ -14,7 +14,7 @@ use Rattle.dover_model.specs.Common.{may_finish_early}
 use Rattle.dover_model.specs.Reports as model
 use Rattle.dover_model.proofs.lists.Members.{by_bool}
 use Rattle.run_record.specs.intervals.Rows.{IsRunOf}
-use Rattle.run_record.proofs.intervals.Charges.{item_next}
+use Rattle.run_record.proofs.intervals.Counted.{item_next}
 use Rattle.run_reports.specs.declared.report.endings.Ending.{Ending}
 use Rattle.run_reports.specs.declared.report.endings.Ending.TheVariants.{Completed, Abandoned}
 use Rattle.run_reports.specs.report.Counts.{jobs_released}

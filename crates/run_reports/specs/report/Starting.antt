@@ -5,7 +5,7 @@ use Rattle.std.specs.Option.{option_map_or}
 use Rattle.dover_model.specs.declared.events.Event.{Event}
 use Rattle.dover_model.specs.declared.events.Event.TheVariants.{Run, Preempt, Take}
 use Rattle.dover_model.specs.Common.{Prints, gets, tick_of_event}
-use Rattle.run_record.specs.intervals.Pages.{capped}
+use Rattle.run_record.specs.ledger.Pages.{capped}
 use Rattle.run_reports.specs.declared.report.starting.Starts.{Starts}
 
 -- the tick at which the job of number n first gets the processor in these steps, and how often it does
