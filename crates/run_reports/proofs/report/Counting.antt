@@ -35,7 +35,7 @@ use Rattle.run_reports.specs.report.Counts.{fates_lines, changes_line, bound_lin
 use Rattle.run_reports.specs.report.Early.{left_in, left_at, early_of, with_left, HasRoom, early_line, lines_where}
 use Rattle.run_reports.specs.report.Early.{early_lines}
 use Rattle.run_reports.specs.declared.report.early.Early.{Early}
-use Rattle.run_reports.specs.report.Starting.{starts_in, starts_fields}
+use Rattle.run_reports.specs.report.Courses.{course_in, starts_fields}
 use Rattle.run_reports.proofs.report.Texts.{five_parts, behind_lines}
 use Rattle.run_reports.specs.declared.report.counts.Counts.{Counts}
 use Rattle.run_reports.specs.report.Lines.{ratio_line, row_line, row_lines}
@@ -301,8 +301,8 @@ module _ (k : Fraction) (run : List Event) (J : Instance) (of : IsRunOf k run J)
       (n ∷ count_by is_preemption (printed J) ∷ count_by is_take (printed J) ∷ [])) (all_changes J)
 
   -- when a job first got the processor, and how often it did
-  pub starts_are : (n : ℕ) → starts_fields (starts_in run n) ≡ reports.start_fields J n
-  starts_are n = ap (λ es. starts_fields (starts_in es n)) (sym of.prints)
+  pub starts_are : (n : ℕ) → starts_fields (course_in run n) ≡ reports.start_fields J n
+  starts_are n = ap (λ es. starts_fields (course_in es n)) (sym of.prints)
       ∙ ap (λ c. option_map_or decimal (reports.start_of_job J n) [] ∷ decimal c ∷ []) (all_runs J n)
 
   -- the line of those that completed early
