@@ -84,6 +84,14 @@ impl HeldStack {
         self.rooms.room_with(e, now)
     }
 
+    /// The sum of the values of the held jobs.
+    pub fn value_sum(&self) -> u64
+        ensures is { result ≡ value_of self.now.held }
+        ensures modest { result < 10 ^ 18 }
+    {
+        self.rooms.value_sum()
+    }
+
     /// Takes the one on top out, if any is held.
     pub fn release_one(&mut self) -> Option<Entry>
         ensures top { result ≡ top_of self.old.held }

@@ -1,15 +1,13 @@
 //! What is put of an answer.
-ghost use Rattle.std.specs.Prelude.{◌≡◌, ◌++◌, ◌∷◌, [], ℕ, List, codes};
-ghost use Rattle.dover_model.specs.Lines.{in_lines};
+ghost use Rattle.std.specs.Prelude.{◌≡◌, ◌+◌, ◌*◌, ◌<◌, ◌++◌, ◌∷◌, [], ℕ, List, length, map, codes};
+ghost use Rattle.dover_model.specs.Lines.{in_lines, with_numbers};
 ghost use Rattle.dover_port.specs.Causes.{HasCause, StopsAtFailure};
 ghost use Rattle.dover_port.specs.Moves.{PutsThrough};
 ghost use Rattle.dover_port.specs.declared.status.Status.TheVariants.{Refused};
 ghost use Rattle.dialogue.specs.Turns.{StopCause, StopsOn};
-ghost use Rattle.question_words.specs.Texts.{PutsBy, piece_lines, policy_lines, row_text, stretch_lines};
-ghost use Rattle.question_words.specs.Texts.{text_of, word_of};
+ghost use Rattle.question_words.specs.Texts.{PutsBy, policy_lines, row_text, text_of, word_of};
 
 use dialogue::Stop;
-use dialogue::lines::put_numbers;
 use dover_model::Piece;
 use dover_port::{Failed, Output, Port, Status};
 use line_text::BackLine;
@@ -62,44 +60,47 @@ pub(crate) struct Answer {
     pub(crate) rows: Rows,
 }
 
-/// Puts the line of each piece.
-fn put_pieces<P: Port>(port: &mut P, out: &mut Output, pieces: &[Piece]) -> Result<(), Failed>
-    ensures text { PutsThrough (P.moves port.old) (P.moves port.new) result out.old out.new
-        (in_lines (piece_lines pieces.now)) }
-    ensures cause { HasCause
-        (P.write_faults port.old) (P.write_faults port.new) (P.read_faults port.old) (P.read_faults port.new) result }
-    ensures stops { StopsAtFailure (P.calls port.old) (P.calls port.new) result }
-{
-    for piece in pieces {
-        let numbers = [piece.from, piece.until, u64::from(piece.number)];
-        match put_numbers(port, out, b"piece", &numbers) {
-            Ok(()) => {}
-            Err(failed) => return Err(failed),
-        }
-    }
-    Ok(())
+/// What has a line.
+trait Row {
+    /// What its line says.
+    ghost says: { Self → List ℕ };
+
+    /// Its line with its line feed.
+    fn line(&self) -> BackLine
+        ensures { result ≡ says self.now ++ 10 ∷ [] };
 }
 
-/// Puts the line of each stretch.
-fn put_stretches<P: Port>(
-    port: &mut P,
-    out: &mut Output,
-    stretches: &[StretchRow],
-) -> Result<(), Failed>
-    ensures text { PutsThrough (P.moves port.old) (P.moves port.new) result out.old out.new
-        (in_lines (stretch_lines stretches.now)) }
-    ensures cause { HasCause
-        (P.write_faults port.old) (P.write_faults port.new) (P.read_faults port.old) (P.read_faults port.new) result }
-    ensures stops { StopsAtFailure (P.calls port.old) (P.calls port.new) result }
+/// The line of a word and numbers, with its line feed.
+fn line_of(word: &[u8], numbers: &[u64]) -> BackLine
+    requires { length word.now + 21 * length numbers.now < 129 }
+    ensures { result ≡ with_numbers word.now numbers.now ++ 10 ∷ [] }
 {
-    for x in stretches {
-        let numbers = [x.from, x.until, x.total, x.cap, x.value];
-        match put_numbers(port, out, b"stretch", &numbers) {
-            Ok(()) => {}
-            Err(failed) => return Err(failed),
-        }
+    let mut line = BackLine::new();
+    line.put_with_wide(word, numbers);
+    line
+}
+
+impl Row for Piece {
+    ghost use Rattle.question_words.specs.Texts.{piece_line};
+
+    ghost says = { piece_line };
+
+    fn line(&self) -> BackLine {
+        line_of(b"piece", &[self.from, self.until, u64::from(self.number)])
     }
-    Ok(())
+}
+
+impl Row for StretchRow {
+    ghost use Rattle.question_words.specs.Texts.{stretch_line};
+
+    ghost says = { stretch_line };
+
+    fn line(&self) -> BackLine {
+        line_of(
+            b"stretch",
+            &[self.from, self.until, self.total, self.cap, self.value],
+        )
+    }
 }
 
 /// The word of a policy's line.
@@ -112,21 +113,26 @@ fn word(named: Named) -> &'static [u8]
     }
 }
 
-/// Puts the line of each policy.
-fn put_policies<P: Port>(
-    port: &mut P,
-    out: &mut Output,
-    policies: &[PolicyRow],
-) -> Result<(), Failed>
+impl Row for PolicyRow {
+    ghost use Rattle.question_words.specs.Texts.{policy_line};
+
+    ghost says = { policy_line };
+
+    fn line(&self) -> BackLine {
+        line_of(word(self.named), &[self.value, self.completed, self.stops])
+    }
+}
+
+/// Puts the line of each row.
+fn put_lines<P: Port, R: Row>(port: &mut P, out: &mut Output, rows: &[R]) -> Result<(), Failed>
     ensures text { PutsThrough (P.moves port.old) (P.moves port.new) result out.old out.new
-        (in_lines (policy_lines policies.now)) }
+        (in_lines (map R.says rows.now)) }
     ensures cause { HasCause
         (P.write_faults port.old) (P.write_faults port.new) (P.read_faults port.old) (P.read_faults port.new) result }
     ensures stops { StopsAtFailure (P.calls port.old) (P.calls port.new) result }
 {
-    for row in policies {
-        let numbers = [row.value, row.completed, row.stops];
-        match put_numbers(port, out, word(row.named), &numbers) {
+    for row in rows {
+        match out.put(port, row.line().bytes()) {
             Ok(()) => {}
             Err(failed) => return Err(failed),
         }
@@ -147,7 +153,7 @@ fn put_compared<P: Port>(
         (P.write_faults port.old) (P.write_faults port.new) (P.read_faults port.old) (P.read_faults port.new) result }
     ensures stops { StopsAtFailure (P.calls port.old) (P.calls port.new) result }
 {
-    match put_policies(port, out, policies) {
+    match put_lines(port, out, policies) {
         Ok(()) => {}
         Err(failed) => return Err(failed),
     }
@@ -163,8 +169,8 @@ fn put_rows<P: Port>(port: &mut P, out: &mut Output, rows: &Rows) -> Result<(), 
     ensures stops { StopsAtFailure (P.calls port.old) (P.calls port.new) result }
 {
     match rows {
-        Rows::Pieces(pieces) => put_pieces(port, out, pieces),
-        Rows::Stretches(stretches) => put_stretches(port, out, stretches),
+        Rows::Pieces(pieces) => put_lines(port, out, pieces.as_slice()),
+        Rows::Stretches(stretches) => put_lines(port, out, stretches.as_slice()),
         Rows::Policies(policies, last) => put_compared(port, out, policies, last),
     }
 }

@@ -18,7 +18,8 @@ use crate::strip::{Bars, put_numbers, put_pieces};
 use crate::windows::put_windows;
 use dover_model::jobs::last_deadline;
 use dover_model::{Job, Memory, PackedEvent, Piece, Ratio, Version};
-use run_record::intervals::{Charge, Interval, weights};
+use run_record::intervals::{Charge, Interval};
+use run_record::ledger::weights;
 use run_reports::report::{count, fates_of, released};
 use std::alloc::Global;
 

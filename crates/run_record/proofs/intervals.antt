@@ -1,10 +1,5 @@
-pub mod Follows
 pub mod Sums
-pub mod Knowing
-pub mod Steps
-pub mod Overs
-pub mod Takes
+pub mod Noting
 pub mod Reading
 pub mod Charges
-pub mod Weighed
 pub mod Counted

@@ -4,4 +4,5 @@ pub mod Follows
 pub mod Roles
 pub mod Steps
 pub mod Moves
+pub mod Releases
 pub mod Walking

@@ -3,5 +3,5 @@ pub mod Counting
 pub mod Losses
 pub mod Sizing
 pub mod Tables
-pub mod Begun
+pub mod CourseReading
 pub mod WorkedRows

@@ -4,4 +4,4 @@ pub mod Fates
 pub mod Findings
 pub mod Lines
 pub mod Rows
-pub mod Starting
+pub mod Courses

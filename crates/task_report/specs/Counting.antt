@@ -4,8 +4,7 @@ use Rattle.std.specs.List.{enumerate_from}
 use Rattle.dover_model.specs.declared.events.Event.{Event}
 use Rattle.dover_model.specs.Common.{JobFacts, job_of_numbers}
 use Rattle.run_reports.specs.report.Counts.{jobs_released}
-use Rattle.run_reports.specs.report.Rows.{ending_at, ending_in}
-use Rattle.run_reports.specs.report.Starting.{never, starts_in}
+use Rattle.run_reports.specs.report.Courses.{course_in, unseen}
 use Rattle.task_words.specs.declared.tasks.task.PeriodicTask.{PeriodicTask}
 use Rattle.task_report.specs.Tallies.{task_of, job_tally, all_together, together}
 use Rattle.task_report.specs.declared.tally.Tally.{Tally}
@@ -15,16 +14,12 @@ use Rattle.task_report.specs.declared.counting.SortedRun.{SortedRun}
 abbrev pub no_job : JobFacts
 no_job = job_of_numbers 0 0 0 0
 
--- of each job of these steps its task is known, where its ending stands, and how often it got the processor
+-- of each job of these steps its task is known, and its course
 pub record Sorted (tasks : List PeriodicTask) (steps : List Event) (run : SortedRun) : Type 0 where
-  pub steps_are : run.steps.items ≡ steps
   pub jobs_are : run.jobs.items ≡ jobs_released steps
   pub sorted : run.of.items ≡ map (task_of tasks) run.jobs.items
-  pub places : length run.places.items ≡ length run.jobs.items
-  pub endings : (n : ℕ) → n < length run.jobs.items
-      → ending_at steps (slice_index_or run.places.items n 0) ≡ ending_in steps n
-  pub counts : length run.starts.items ≡ length run.jobs.items
-  pub starts : (n : ℕ) → n < length run.jobs.items → slice_index_or run.starts.items n never ≡ starts_in steps n
+  pub counts : length run.courses.items ≡ length run.jobs.items
+  pub courses : (n : ℕ) → n < length run.jobs.items → slice_index_or run.courses.items n unseen ≡ course_in steps n
 
 -- the tally with a job, if it is of the task of number y
 abbrev pub with_job : List PeriodicTask → List Event → (y : ℕ) → Tally → ℕ × JobFacts → Tally

@@ -4,8 +4,7 @@ use Rattle.std.specs.Prelude.{fold, max, min, Option, Some, None}
 use Rattle.std.specs.List.{enumerate_from, prefix_len}
 use Rattle.dover_model.specs.declared.events.Event.{Event}
 use Rattle.dover_model.specs.Common.{Instance, JobFacts, printed}
-use Rattle.run_reports.specs.report.Rows.{ending_in}
-use Rattle.run_reports.specs.report.Starting.{starts_in}
+use Rattle.run_reports.specs.report.Courses.{course_in, ending_in}
 use Rattle.run_reports.specs.declared.report.endings.Ending.{Ending}
 use Rattle.run_reports.specs.declared.report.endings.Ending.TheVariants.{Completed, Abandoned}
 use Rattle.task_words.specs.tasks.Tasks.{releases}
@@ -86,7 +85,7 @@ together a b = record {
 
 -- of a job with its number, by the printed steps of a run
 abbrev pub job_tally : List Event → ℕ × JobFacts → Tally
-job_tally run n_j = of_job n_j.1 (ending_in run n_j.0) (starts_in run n_j.0).count
+job_tally run n_j = of_job n_j.1 (ending_in run n_j.0) (course_in run n_j.0).count
 
 -- of some jobs with their numbers
 abbrev pub all_together : List Event → List (ℕ × JobFacts) → Tally

@@ -2,19 +2,16 @@
 use crate::sorting::sort_jobs;
 use crate::tally::{Tally, no_jobs, of_job, together};
 use dover_model::{Job, Memory, PackedEvent};
-use run_reports::report::endings::{ending_at, endings};
-use run_reports::report::{Starts, released, starts_of};
+use run_reports::report::{Course, courses_of, released};
 use std::alloc::Global;
 use task_words::tasks::PeriodicTask;
 
-/// The steps of a run, its jobs, of each the number of its task, where it ended and when it started.
+/// The jobs of a run, of each the number of its task and its course.
 #[derive(Drop)]
 pub(crate) struct SortedRun {
-    pub(crate) steps: Vec<PackedEvent>,
     pub(crate) jobs: Vec<Job>,
     pub(crate) of: Vec<usize>,
-    pub(crate) places: Vec<usize>,
-    pub(crate) starts: Vec<Starts>,
+    pub(crate) courses: Vec<Course>,
 }
 
 impl SortedRun {
@@ -29,21 +26,14 @@ impl SortedRun {
     pub(crate) fn of(
         alloc: Global,
         tasks: &[PeriodicTask],
-        steps: Vec<PackedEvent>,
+        steps: &[PackedEvent],
     ) -> Result<SortedRun, Memory>
-        ensures { IfOk result (λ run. Sorted tasks.now steps.items run) }
+        ensures { IfOk result (λ run. Sorted tasks.now steps.now run) }
     {
-        let jobs = released(alloc, &steps)?;
+        let jobs = released(alloc, steps)?;
         let of = sort_jobs(alloc, tasks, &jobs)?;
-        let places = endings(alloc, &steps, jobs.len())?;
-        let starts = starts_of(alloc, &steps, jobs.len())?;
-        Ok(SortedRun {
-            steps,
-            jobs,
-            of,
-            places,
-            starts,
-        })
+        let courses = courses_of(alloc, steps, jobs.len())?;
+        Ok(SortedRun { jobs, of, courses })
     }
 
     /// What became of the job of this number.
@@ -54,8 +44,8 @@ impl SortedRun {
             result ≡ model.job_tally steps (number, get_or self.now.jobs.items number no_job) }
         ensures few { IsOfAtMost 1 result }
     {
-        let ending = ending_at(&self.steps, self.places[number]);
-        of_job(&self.jobs[number], ending, self.starts[number].count)
+        let course = &self.courses[number];
+        of_job(&self.jobs[number], course.ending, course.count)
     }
 
     /// What became of some jobs, and of the job of this number where it is of the task of that number.

@@ -36,7 +36,7 @@ fn tell_lines<P: Port>(
         (P.write_faults port.old) (P.write_faults port.new) (P.read_faults port.old) (P.read_faults port.new) }
     ensures stops { StopsOn result (P.calls port.old) (P.calls port.new) }
 {
-    let Ok(run) = SortedRun::of(alloc, tasks, steps) else {
+    let Ok(run) = SortedRun::of(alloc, tasks, &steps) else {
         return Err(Stop::NoMemory);
     };
     match put_report(port, out, tasks, &run) {

@@ -1,7 +1,6 @@
 -- What a run costs, said of its rows.
-use Rattle.std.proofs.Common.{◌≡◌, ℕ, ◌+◌, ◌-◌, ◌*◌, ◌≤◌, ◌<◌, List, ◌∷◌, length, drop, get_or, sym, ap, ◌∙◌, subst}
+use Rattle.std.proofs.Common.{◌≡◌, ℕ, ◌+◌, ◌-◌, ◌*◌, ◌≤◌, List, sym, ap, ◌∙◌, subst}
 use Rattle.std.proofs.Common.{arith, sum_by}
-use Rattle.std.proofs.lemmas.List.{drop_all, drop_more}
 use Rattle.dover_model.specs.Books as books
 use Rattle.dover_model.specs.Common.{Fraction, JobFacts, Instance, total_value, completed_value, ran, worth, observed}
 use Rattle.dover_model.specs.Common.{IsWithin, IsLeastDense, IsHeavy, Each}
@@ -12,20 +11,7 @@ use Rattle.dover_model.proofs.bound.BoundLaws.{bound, observed_bound, interval_o
 use Rattle.dover_model.proofs.bound.BoundLaws.{interval_paid, interval_light, intervals_complete, intervals_abandon}
 use Rattle.dover_model.proofs.runs.Honest.{observed_honest}
 use Rattle.run_record.specs.declared.intervals.interval.Interval.{Interval}
-use Rattle.run_record.specs.intervals.Pages.{Page}
 use Rattle.run_record.specs.intervals.Rows.{IsRunOf, numbers_of, rows_of}
-use Rattle.run_record.proofs.intervals.Reading.{Reads, all_read}
-
--- the item at an index, and those behind it
-pub item_next : {X : Type 0} (xs : List X) (i : ℕ) (x : X) → x ≡ get_or xs i x → i < length xs
-    → drop i xs ≡ x ∷ drop (i + 1) xs
-item_next xs i x is there = drop_more xs i x there ∙ ap (λ y. y ∷ drop (i + 1) xs) (sym is)
-
--- where all steps are read, the page has the rows and the value
-pub charged : (k : Fraction) (run : List Event) (J : Instance) → IsRunOf k run J → (l : Page) (i : ℕ) → length run ≤ i
-    → Reads J l (drop i run)
-    → (l.rows ≡ rows_of J) × (l.value ≡ completed_value J)
-charged k run J of l i past reads = all_read J of.valid of.listable l (subst (Reads J l) (drop_all i run past) reads)
 
 module _ (k : Fraction) (run : List Event) (J : Instance) (of : IsRunOf k run J) (rows : List Interval) (value : ℕ)
     (same : rows ≡ rows_of J)

@@ -1,12 +1,19 @@
 -- What steps tell of the jobs of a run, with one step more.
-use Rattle.std.proofs.Common.{◌≡◌, ℕ, ◌+◌, ◌*◌, ◌^◌, ◌≤◌, ◌<◌, List, length, take, get_or, sym, ap, ◌∙◌, cond, arith}
+use Rattle.std.proofs.Common.{◌≡◌, ℕ, ◌+◌, ◌*◌, ◌^◌, ◌≤◌, ◌<◌, List, ◌∷◌, length, take, drop, get_or, sym, ap, ◌∙◌}
+use Rattle.std.proofs.Common.{cond, arith}
 use Rattle.std.proofs.Common.{length-take, sum_by, fold}
+use Rattle.std.proofs.lemmas.List.{drop_more}
 use Rattle.std.proofs.lemmas.List.Sums.{sum_by_more, count_by-le-length, fold_more}
 use Rattle.dover_model.specs.declared.events.Event.{Event}
 use Rattle.dover_model.specs.Common.{is_take, is_preemption, changes_hands, Prints}
 use Rattle.run_record.specs.intervals.Totals.{is_release, is_completion, is_abandonment, value_released, totals_of}
 use Rattle.run_record.specs.intervals.Totals.{with_step, later_deadline, HasSpace}
 use Rattle.run_record.specs.declared.intervals.totals.JobTotals.{JobTotals}
+
+-- the item at an index, and those behind it
+pub item_next : {X : Type 0} (xs : List X) (i : ℕ) (x : X) → x ≡ get_or xs i x → i < length xs
+    → drop i xs ≡ x ∷ drop (i + 1) xs
+item_next xs i x is there = drop_more xs i x there ∙ ap (λ y. y ∷ drop (i + 1) xs) (sym is)
 
 -- a sum with one step more
 pub sum_more : (f : Event → ℕ) (run : List Event) (i : ℕ) (e : Event) → e ≡ get_or run i e → i < length run

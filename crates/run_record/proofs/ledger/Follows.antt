@@ -1,11 +1,14 @@
 -- What is kept follows a state of the run.
-use Rattle.std.proofs.Common.{◌≡◌, ◌≤◌, List, length, Option, Some, None, slice_index_or}
+use Rattle.std.proofs.Common.{◌≡◌, ◌≤◌, ℕ, List, length, Option, Some, None, slice_index_or}
 use Rattle.dover_model.specs.declared.events.Entry.{Entry}
+use Rattle.dover_model.specs.declared.events.Event.{Event}
+use Rattle.dover_model.specs.declared.events.Event.TheVariants.{Complete, Abandon}
+use Rattle.dover_model.specs.Intervals.{value_of}
 use Rattle.dover_model.specs.declared.events.Role.TheVariants.{Running}
 use Rattle.dover_model.specs.declared.events.Task.{Task}
-use Rattle.dover_model.specs.Common.{entry_of, IsMember, Each, NoneRuns, State, Move, Prints, Waits, Ticks, after}
+use Rattle.dover_model.specs.Common.{entry_of, IsMember, Each, NoneRuns, State, Move, Prints, after}
 use Rattle.held_stack.specs.Stack.{IsByDeadline, held_entries}
-use Rattle.run_record.specs.ledger.Pages.{Page, nobody, turn_at, with_event, room_on, IsReadable}
+use Rattle.run_record.specs.ledger.Pages.{Page, nobody, turn_at, with_event, room_on, value_on, IsReadable}
 use Rattle.run_record.specs.ledger.Rooms.{room_before}
 
 -- the job that runs is this one
@@ -32,9 +35,15 @@ abbrev pub page_after : Page → Move → Page
 page_after p (Prints e) = with_event p e
 page_after p _ = p
 
--- the step can come next, and its room is that of the state
+-- the value of the job that a step completes or abandons
+abbrev pub value_before : State → Event → ℕ
+value_before s (Complete at n) = value_of s n
+value_before s (Abandon at n) = value_of s n
+value_before s _ = 0
+
+-- the step can come next, and its room and its value are those of the state
 abbrev pub CanFollow : State → Page → Move → Type 0
-CanFollow s p (Prints e) = IsReadable p e × (room_on p e ≡ room_before s e)
+CanFollow s p (Prints e) = IsReadable p e × (room_on p e ≡ room_before s e) × (value_on p e ≡ value_before s e)
 CanFollow s p _ = Unit {0}
 
 -- the page follows a step

@@ -1,6 +1,7 @@
 -- What the entries of the held jobs say of their room and value.
 use Rattle.std.proofs.Common.{◌≡◌, sym, ◌∙◌, true, List, map, ap, ◌∷◌, refl, Bool, false, cond, ℕ, ◌<◌, inl, inr, subst}
-use Rattle.std.proofs.Common.{[], arith, ◌+◌, ◌≤◌, filter, sum_by, ◌||◌, nat_lt, Some}
+use Rattle.std.proofs.Common.{[], arith, ◌+◌, ◌≤◌, filter, sum_by, ◌||◌, nat_lt, Some, length, ◌==◌, ne_eqb}
+use Rattle.std.specs.Option.{option_map_or}
 use Rattle.std.proofs.lemmas.List.Sums.{sum_by-cons}
 use Rattle.dover_model.specs.declared.events.Role.TheVariants.{Running, Held}
 use Rattle.dover_model.specs.declared.events.Task.{Task}
@@ -81,6 +82,28 @@ busy_room clock tasks held r is runs later =
     ap (λ es. room_of clock (entry_of r ∷ es)) is ∙ ap (room_of clock) (sym (both_entries tasks r runs later))
     ∙ room_sorted clock (map entry_of (filter is_privileged tasks)) ∙ room_map clock (filter is_privileged tasks)
 
+-- and what they are worth
+pub busy_value : (tasks : List Task) (held : List Entry) (r : Task) → held ≡ held_entries tasks
+    → filter is_running tasks ≡ r ∷ []
+    → Each (λ t. is_held t ≡ true → r.job.deadline < t.job.deadline) tasks
+    → r.job.value + value_of held ≡ value_sum (filter is_privileged tasks)
+busy_value tasks held r is runs later = sym (sum_by-cons (λ e. e.value) (entry_of r) held)
+    ∙ ap (λ es. value_of (entry_of r ∷ es)) is ∙ ap value_of (sym (both_entries tasks r runs later))
+    ∙ sum_sorted (λ e. e.value) (map entry_of (filter is_privileged tasks))
+    ∙ sum_map entry_of (λ e. e.value) (filter is_privileged tasks)
+
+-- those that pass a test are worth no more than all
+some_value : (b : Bool) (n : ℕ) → cond b n 0 ≤ n
+some_value true n = omega arith
+some_value false n = omega arith
+
+pub value_part : (p : Task → Bool) (tasks : List Task) → value_sum (filter p tasks) ≤ value_sum tasks
+value_part p tasks = omega (
+  arith,
+  sum_filter p (λ x. x.job.value) tasks,
+  sum_le (λ x. cond (p x) x.job.value 0) (λ x. x.job.value) tasks (λ x m. some_value (p x) x.job.value),
+)
+
 -- the value of a job that fails a test fits beside that of those that pass
 pub value_room : (p : Task → Bool) (tasks : List Task) (t : Task) → IsMember t tasks → p t ≡ false
     → value_sum (filter p tasks) + t.job.value ≤ value_sum tasks
@@ -88,10 +111,6 @@ value_room p tasks t member fails =
     let all = sum_filter p (λ x. x.job.value) tasks in
     let room = below tasks member in
     omega (arith, all, room) where
-      some : (b : Bool) (n : ℕ) → cond b n 0 ≤ n
-      some true n = omega arith
-      some false n = omega arith
-
       below : (ts : List Task) → IsMember t ts
           → sum_by (λ x. cond (p x) x.job.value 0) ts + t.job.value ≤ sum_by (λ x. x.job.value) ts
       below [] m = absurd m
@@ -99,14 +118,15 @@ value_room p tasks t member fails =
           let one = sum_by-cons (λ y. cond (p y) y.job.value 0) x ts in
           let other = sum_by-cons (λ y. y.job.value) x ts in
           let none : cond (p x) x.job.value 0 ≡ 0 = ap (λ b. cond b x.job.value 0) (ap p (sym e) ∙ fails) in
-          let rest = sum_le (λ y. cond (p y) y.job.value 0) (λ y. y.job.value) ts (λ y m. some (p y) y.job.value) in
+          let rest = sum_le (λ y. cond (p y) y.job.value 0) (λ y. y.job.value) ts
+          (λ y m. some_value (p y) y.job.value) in
           let same : t.job.value ≡ x.job.value = ap (λ (y : Task). y.job.value) e in
           omega (arith, one, other, none, rest, same)
       below (x ∷ ts) (inr m) =
           let one = sum_by-cons (λ y. cond (p y) y.job.value 0) x ts in
           let other = sum_by-cons (λ y. y.job.value) x ts in
           let rest = below ts m in
-          let here = some (p x) x.job.value in
+          let here = some_value (p x) x.job.value in
           omega (arith, one, other, rest, here)
 
 -- what holds of each entry holds of the top
@@ -114,3 +134,17 @@ pub top_later : (d : ℕ) (stack : List Entry) (x : Entry) → Each (λ f. d < f
     → d < x.deadline
 top_later d [] x all top = none_is_some top
 top_later d (e ∷ stack) x all top = subst (λ y. d < y.deadline) (some_same e x top) (all e (inl refl))
+
+-- no job is on top where none is held
+pub none_on_top : (tasks : List Task)
+    → option_map_or (λ e. false) (top_of (by_deadline (map entry_of tasks))) true ≡ (length tasks == 0)
+none_on_top [] = refl
+none_on_top (t ∷ tasks) = some (by_deadline (map entry_of tasks))
+    ∙ sym (ne_eqb (length (t ∷ tasks)) 0 (λ same. omega (arith, same))) where
+      some : (es : List Entry) → option_map_or (λ e. false) (top_of (put_in (entry_of t) es)) true ≡ false
+      some [] = refl
+      some (e ∷ es) = by_test (nat_lt e.deadline t.job.deadline) where
+        by_test : (b : Bool) → option_map_or (λ e. false)
+            (top_of (cond b (e ∷ put_in (entry_of t) es) (entry_of t ∷ e ∷ es))) true ≡ false
+        by_test true = refl
+        by_test false = refl

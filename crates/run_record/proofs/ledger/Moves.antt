@@ -1,8 +1,9 @@
 -- The page follows each step of the machine.
-use Rattle.std.proofs.Common.{◌≡◌, ℕ, ◌+◌, ◌≤◌, ◌<◌, ◌⊎◌, inl, inr, List, ◌∷◌, length, refl, sym, ap, ◌∙◌, subst, Bool}
+use Rattle.std.proofs.Common.{◌≡◌, ℕ, ◌+◌, ◌-◌, ◌≤◌, ◌<◌, ◌⊎◌, inl, inr, List, [], ◌∷◌, length, filter, option_map}
+use Rattle.std.proofs.Common.{refl, sym, ap, ◌∙◌, subst, Bool}
 use Rattle.std.proofs.Common.{true, false, cond, arith, eq-eqb, ne_eqb, Option, Some, None, ◌==◌, nat_lt}
 use Rattle.std.proofs.lemmas.List.Sums.{sum_by-cons}
-use Rattle.std.specs.Option.{ForSome}
+use Rattle.std.specs.Option.{ForSome, option_map_or}
 use Rattle.std.specs.Bool.{then_some}
 use Rattle.dover_model.specs.Common.{Fraction, entry_of, IsMember, Each, IsNumberedFrom, IsSound, NoneRuns, State}
 use Rattle.dover_model.specs.Common.{is_held, is_running, is_privileged, is_ready_behind, privileged, room, value_sum}
@@ -20,12 +21,15 @@ use Rattle.dover_model.proofs.steps.Roles.{one_number, passes, is_held_role, is_
 use Rattle.dover_model.proofs.steps.Roles.{numbered_map}
 use Rattle.dover_model.proofs.lists.Tests.{never}
 use Rattle.dover_model.proofs.steps.Ticking.{Quiet}
-use Rattle.held_stack.specs.Stack.{Stack, top_of, popped, IsByDeadline, held_entries}
+use Rattle.held_stack.specs.Stack.{Stack, top_of, value_of, popped, IsByDeadline, held_entries}
 use Rattle.dover_model.proofs.steps.RoleChanges.{with_role_at, all_displaced, displaced_same}
 use Rattle.run_record.proofs.ledger.Changing.{entries_later}
-use Rattle.run_record.proofs.ledger.Held.{busy_room, held_value, value_room}
+use Rattle.run_record.proofs.ledger.Held.{busy_room, busy_value, free_privileged, held_value, value_part, value_room}
+use Rattle.run_record.proofs.ledger.Held.{none_on_top}
+use Rattle.run_record.proofs.intervals.Sums.{capped_small}
+use Rattle.dover_model.proofs.bound.Closing.{value_of_number}
 use Rattle.run_record.specs.ledger.Pages.{Page, empty, turn_at, stopped, started, with_hold, without, room_with}
-use Rattle.run_record.specs.ledger.Pages.{CanHold, CanStop}
+use Rattle.run_record.specs.ledger.Pages.{CanHold, CanStop, ran, turn_value, worth, capped, holds_none}
 use Rattle.run_record.proofs.ledger.Follows.{IsTurn, Follows, Next}
 use Rattle.run_record.proofs.ledger.Roles.{held_same, held_more, held_less, none_pass, top_held, one_runner, each_all}
 use Rattle.run_record.proofs.ledger.Steps.{at_clock, follows_either, within, the_turn, turned, halted, passed, starts}
@@ -34,6 +38,12 @@ use Rattle.run_record.proofs.ledger.Steps.{displaces}
 -- a job in another role doesn't run
 idle_in : (t : Task) (role : Role) → t.role ≡ role → (role ≡ Running → ⊥) → t.role ≡ Running → ⊥
 idle_in t role is other runs = other (sym is ∙ runs)
+
+-- a job that ran has its value
+turn_worth : (o : Option Entry) (ticks : ℕ)
+    → option_map_or (λ e. e.value) o 0 ≡ option_map_or (λ e. e.value) (option_map (ran ticks) o) 0
+turn_worth None ticks = refl
+turn_worth (Some e) ticks = refl
 
 module _ (s : State) (sound : IsSound s) (p : Page) (follows : Follows s p)
     (total : value_sum s.tasks ≤ 10_000_000_000_000) where
@@ -60,13 +70,15 @@ module _ (s : State) (sound : IsSound s) (p : Page) (follows : Follows s p)
     can_stop = of_turn (λ e. e.number < length p.entries)
         (omega (arith, within s.tasks sound.numbered r member, follows.count))
 
+    -- it runs alone
+    alone_runs : filter is_running s.tasks ≡ r ∷ []
+    alone_runs = one_runner 0 s.tasks sound.numbered r member (passes is_running r Running true runs refl)
+        (λ t m yes_. sound.one_runs t r m member (is_running_role t yes_) runs)
+
     -- the room with it
     room_is : room_with s.clock p.held (turn_at p s.clock) ≡ room s.clock (privileged s)
     room_is = ap (room_with s.clock p.held) (the_turn s sound p follows r member runs)
-        ∙ busy_room s.clock s.tasks p.held.held r follows.held
-        (one_runner 0 s.tasks sound.numbered r member (passes is_running r Running true runs refl)
-        (λ t m yes_. sound.one_runs t r m member (is_running_role t yes_) runs))
-        before_held
+        ∙ busy_room s.clock s.tasks p.held.held r follows.held alone_runs before_held
 
     can_hold : CanHold p.held (entry_of r)
     can_hold = record {
@@ -83,7 +95,13 @@ module _ (s : State) (sound : IsSound s) (p : Page) (follows : Follows s p)
     -- a completion
     completes : Next s p (Prints (Complete s.clock r.number))
     completes = record {
-      can = (can_stop, refl);
+      can = (
+        can_stop,
+        refl,
+        turn_worth p.turn (s.clock - p.since)
+            ∙ ap (λ o. option_map_or (λ e. e.value) o 0) (the_turn s sound p follows r member runs)
+            ∙ sym (value_of_number s sound.numbered r member),
+      );
       follows = follows_either _ (halted s sound p follows r member runs Done (λ e. cc) p.held follows.order
           (follows.held ∙ held_same s.tasks sound.numbered r member Done not_held refl));
     }
@@ -106,6 +124,7 @@ module _ (s : State) (sound : IsSound s) (p : Page) (follows : Follows s p)
       can = (
         (can_stop, of_turn (CanHold p.held) can_hold),
         room_is,
+        refl,
       );
       follows = subst (λ ts. Follows (at_clock s ts)
           (started (record (stopped p s.clock) { held = with_hold p.held (turn_at p s.clock) }) s.clock
@@ -144,7 +163,7 @@ module _ (s : State) (sound : IsSound s) (p : Page) (follows : Follows s p)
     -- a take
     takes : (x : Task) → IsMember x s.tasks → x.role ≡ Waiting → Next s p (Prints (Take s.clock r.number x.number))
     takes x x_in waits = record {
-      can = (can_stop, refl);
+      can = (can_stop, refl, refl);
       follows = subst (λ ts. Follows (at_clock s ts)
           (started (record (stopped p s.clock) { held = empty }) s.clock x.number))
           (ap (with_role_at x.number Running)
@@ -192,13 +211,46 @@ module _ (s : State) (sound : IsSound s) (p : Page) (follows : Follows s p)
       g_out : is_held g ≡ false
       g_out = passes is_held g Waiting false g_waits refl
 
+  -- ---- what all under way are worth
+
+  -- those that run and are held
+  worth_of : (o : Option Entry) → turn_at p s.clock ≡ o → IsTurn s.tasks o
+      → turn_value p + value_of p.held.held ≡ value_sum (privileged s)
+  worth_of None at none =
+      let free : filter is_running s.tasks ≡ [] = none_pass is_running s.tasks (λ t m. by_bool _ (is_running t)
+      (λ yes_. absurd (none t m (is_running_role t yes_))) (λ no_. no_)) in
+      omega (
+        arith,
+        turn_worth p.turn (s.clock - p.since),
+        ap (λ o. option_map_or (λ e. e.value) o 0) at,
+        held_value s.tasks p.held.held follows.held,
+        ap value_sum (free_privileged s.tasks free),
+      )
+  worth_of (Some e) at (r, r_in, runs, is) = omega (
+    arith,
+    turn_worth p.turn (s.clock - p.since),
+    ap (λ o. option_map_or (λ e. e.value) o 0) (the_turn s sound p follows r r_in runs),
+    busy_value s.tasks p.held.held r follows.held (alone_runs r r_in runs) (before_held r r_in runs),
+  )
+
+  pub worth_is : worth p ≡ value_sum (privileged s)
+  worth_is = ap capped (worth_of (turn_at p s.clock) refl follows.turn)
+      ∙ capped_small (value_sum (privileged s)) (omega (arith, value_part is_privileged s.tasks, total))
+
+  pub worth_small : worth p ≤ 10_000_000_000_000
+  worth_small = omega (arith, worth_is, value_part is_privileged s.tasks, total)
+
+  -- none is held
+  pub none_is : holds_none p ≡ (length (filter is_held s.tasks) == 0)
+  none_is = ap (λ es. option_map_or (λ e. false) (top_of es) true) follows.held ∙ none_on_top (filter is_held s.tasks)
+
   -- ---- where none runs
 
   -- a held job resumes
   resumes : (q : Task) → IsMember q s.tasks → q.role ≡ Held
       → Each (λ t. t.role ≡ Held → q.job.deadline ≤ t.job.deadline) s.tasks → Next s p (Prints (Run s.clock q.number))
   resumes q member holds least = record {
-    can = (tt, refl);
+    can = (tt, refl, refl);
     follows = subst (λ h. Follows (at_clock s tasks) (started (record p { held = h }) s.clock q.number)) (sym stack_is)
         (starts s p follows q member idle rest
         (subst IsByDeadline is follows.order).1 refl);
@@ -243,7 +295,7 @@ module _ (s : State) (sound : IsSound s) (p : Page) (follows : Follows s p)
   begins : (x : Task) → IsMember x s.tasks → (x.role ≡ Running → ⊥) → is_held x ≡ false
       → Next s p (Prints (Run s.clock x.number))
   begins x member idle out = record {
-    can = (tt, refl);
+    can = (tt, refl, refl);
     follows = subst (λ h. Follows (at_clock s (with_role_at x.number Running s.tasks))
         (started (record p { held = h }) s.clock x.number)) (sym (by_top (top_of p.held.held) refl))
         (starts s p follows x member idle p.held follows.order
@@ -270,6 +322,7 @@ module _ (s : State) (sound : IsSound s) (p : Page) (follows : Follows s p)
           (firsts (turn_at p s.clock) follows.turn),
       subst (λ m. room_with m p.held (turn_at p m) ≡ room s.clock (privileged s)) (sym now)
           (by_turn (turn_at p s.clock) refl follows.turn),
+      refl,
     );
     follows = turned s sound p follows c member (idle_in c Coming comes (λ e. cc))
         (passes is_held c Coming false comes refl) Fresh (λ e. cc) refl;
@@ -294,7 +347,12 @@ module _ (s : State) (sound : IsSound s) (p : Page) (follows : Follows s p)
   -- an abandonment
   abandons : (x : Task) → IsMember x s.tasks → x.role ≡ Waiting → Next s p (Prints (Abandon s.clock x.number))
   abandons x member waits = record {
-    can = (tt, refl);
+    can = (
+      tt,
+      refl,
+      ap (λ (e : Entry). e.value) (follows.stored x member (idle_in x Waiting waits (λ e. cc)))
+          ∙ sym (value_of_number s sound.numbered x member),
+    );
     follows = follows_either true (turned s sound p follows x member (idle_in x Waiting waits (λ e. cc))
         (passes is_held x Waiting false waits refl) Gone (λ e. cc) refl);
   }
@@ -310,7 +368,7 @@ module _ (s : State) (sound : IsSound s) (p : Page) (follows : Follows s p)
   -- the end, or a tick
   pub rests : (b : Bool) (value : ℕ) → Next s p (then_some b (Prints (End value)) or_else Ticks)
   rests true value = record {
-    can = (tt, refl);
+    can = (tt, refl, refl);
     follows = subst (λ ts. Follows (at_clock s ts) p) (sym (end_same s value)) follows;
   }
   rests false value = record { can = tt; follows = passed s sound p follows }

@@ -1,11 +1,12 @@
 -- What is kept of the running and the held jobs, and what each printed step does to it.
-use Rattle.std.specs.Prelude.{ℕ, ◌-◌, ◌^◌, ◌<◌, max, List, [], ◌∷◌, length, set, ◌==◌, if◌then◌else◌, Option}
-use Rattle.std.specs.Prelude.{Some, None, slice_index_or}
-use Rattle.std.specs.Option.{option_map, ForSome}
+use Rattle.std.specs.Prelude.{ℕ, ◌+◌, ◌-◌, ◌^◌, ◌<◌, min, max, List, [], ◌∷◌, ◌++◌, length, set, ◌==◌}
+use Rattle.std.specs.Prelude.{if◌then◌else◌, Option, Some, None, slice_index_or, Bool, true, false, fold}
+use Rattle.std.specs.Option.{option_map, option_map_or, ForSome}
 use Rattle.dover_model.specs.declared.events.Entry.{Entry}
 use Rattle.dover_model.specs.declared.events.Event.{Event}
 use Rattle.dover_model.specs.declared.events.Event.TheVariants.{Release, Run, Preempt, Take, Complete, Abandon, End}
-use Rattle.dover_model.specs.Common.{room_of, JobFacts, Each}
+use Rattle.dover_model.specs.declared.events.Role.TheVariants.{Coming}
+use Rattle.dover_model.specs.Common.{entry_of, room_of, JobFacts, Each}
 use Rattle.held_stack.specs.Stack.{Stack, top_of, value_of, popped}
 
 -- the jobs by number, as they were when they last had the processor; the one that runs, as it was at a tick; and the
@@ -23,6 +24,23 @@ nobody = record { number = 0; deadline = 0; latest = 0; left = 0; value = 0 }
 -- no job is held
 abbrev pub empty : Stack
 empty = record { held = []; spare = 0 }
+
+-- with these jobs, none of which runs or is held
+abbrev pub page_of : List Entry → Page
+page_of entries = record { entries = entries; since = 0; turn = None; held = empty }
+
+-- the job that a step releases, before it runs, as the one of this number
+abbrev pub entries_by : ℕ → Event → List Entry
+entries_by n (Release m job) = entry_of (record { number = n; job = job; role = Coming; had = 0 }) ∷ []
+entries_by n _ = []
+
+-- with that of one step more
+abbrev pub with_entry : List Entry → Event → List Entry
+with_entry entries e = entries ++ entries_by (length entries) e
+
+-- the jobs that these steps release, before they run
+abbrev pub entries_of : List Event → List Entry
+entries_of run = fold with_entry [] run
 
 -- a job that ran for so many ticks more
 abbrev pub ran : ℕ → Entry → Entry
@@ -82,6 +100,28 @@ abbrev pub room_on : Page → Event → ℕ
 room_on p (Release n job) = room_with job.release p.held (turn_at p job.release)
 room_on p (Preempt at stops starts) = room_with at p.held (turn_at p at)
 room_on p _ = 0
+
+-- a sum, as far as a word takes it
+abbrev pub capped : ℕ → ℕ
+capped n = min n (2 ^ 64 - 1)
+
+-- the value of the job that runs
+abbrev pub turn_value : Page → ℕ
+turn_value p = option_map_or (λ e. e.value) p.turn 0
+
+-- what the running and the held jobs are worth
+abbrev pub worth : Page → ℕ
+worth p = capped (turn_value p + value_of p.held.held)
+
+-- no job is held
+abbrev pub holds_none : Page → Bool
+holds_none p = option_map_or (λ e. false) (top_of p.held.held) true
+
+-- the value of the job that a step completes or abandons
+abbrev pub value_on : Page → Event → ℕ
+value_on p (Complete at n) = turn_value p
+value_on p (Abandon at n) = (slice_index_or p.entries n nobody).value
+value_on p _ = 0
 
 -- ---- what a step asks of the page
 

@@ -5,9 +5,10 @@ ghost use Rattle.dover_model.specs.Common.{IsLeastDense, IsPaid, intervals, JobF
 ghost use Rattle.run_record.specs.intervals.Rows.{IsRunOf, numbers_of, rows_of};
 ghost use Rattle.run_record.specs.intervals.Totals.{totals_of};
 
+use crate::intervals::book::IntervalBook;
 use crate::intervals::interval::Interval;
-use crate::intervals::ledger::Ledger;
 use crate::intervals::totals::JobTotals;
+use crate::ledger::before_run;
 use dover_model::{Memory, PackedEvent, Ratio};
 use std::alloc::Global;
 use std::marker::Model;
@@ -54,13 +55,15 @@ impl Charge {
             IfOk result (λ c. c.value + sum_by (λ i. i.abandoned) c.rows ≡ total_value J.jobs) }
         ensures totals { IfOk result (λ c. c.totals ≡ totals_of run.now) }
     {
-        let mut ledger = Ledger::new(alloc);
+        let mut under_way = before_run(alloc, run)?;
+        let mut book = IntervalBook::new(alloc);
         let mut totals = JobTotals::new();
         for event in run {
             totals.add(event);
-            ledger.read(event)?;
+            book.note(&under_way, event)?;
+            under_way.read(alloc, event)?;
         }
-        let (rows, value) = ledger.into_parts();
+        let (rows, value) = book.into_parts();
         Ok(Charge {
             rows,
             value,

@@ -2,7 +2,7 @@
 ghost use Rattle.std.specs.Prelude.{◌≡◌, ◌<◌, OnOk, IfOk, None, slice_index_or};
 ghost use Rattle.held_stack.specs.Stack.{top_of};
 ghost use Rattle.run_record.specs.ledger.Pages.{Page, nobody, ran, turn_at, stopped, started, with_hold, without};
-ghost use Rattle.run_record.specs.ledger.Pages.{with_event};
+ghost use Rattle.run_record.specs.ledger.Pages.{with_event, turn_value, worth, holds_none, value_on};
 ghost use Rattle.run_record.specs.ledger.Pages.{empty, had_in, room_on, CanStop, CanPreempt, CanWeigh, IsReadable};
 ghost use Rattle.run_record.specs.ledger.Pages as pages;
 
@@ -81,6 +81,44 @@ impl JobsUnderWay {
             Event::Release { job, .. } => self.room_at(job.release()),
             Event::Preempt { at, .. } => self.room_at(at),
             _ => 0,
+        }
+    }
+
+    /// What the running and the held jobs are worth.
+    pub fn worth(&self) -> u64
+        ensures { result ≡ worth self.now }
+    {
+        self.turn_value().saturating_add(self.held.value_sum())
+    }
+
+    /// Whether no job is held.
+    pub fn holds_none(&self) -> bool
+        ensures { result ≡ holds_none self.now }
+    {
+        match self.held.top() {
+            Some(_) => false,
+            None => true,
+        }
+    }
+
+    /// The value of the job that the next printed step completes or abandons, and 0 for another step.
+    pub fn value(&self, event: &PackedEvent) -> u64
+        ensures { result ≡ value_on self.now event.now }
+    {
+        match event.event() {
+            Event::Complete { .. } => self.turn_value(),
+            Event::Abandon { number, .. } => self.entry(number).value,
+            _ => 0,
+        }
+    }
+
+    /// The value of the job that runs, 0 where none does.
+    fn turn_value(&self) -> u64
+        ensures { result ≡ turn_value self.now }
+    {
+        match &self.turn {
+            Some(entry) => entry.value,
+            None => 0,
         }
     }
 

@@ -2,7 +2,6 @@
 use Rattle.std.proofs.Common.{◌≡◌, ℕ, ◌+◌, ◌*◌, ◌≤◌, ◌<◌, List, [], ◌∷◌, ◌++◌, length, map, take, get_or, refl, sym, ap}
 use Rattle.std.proofs.Common.{◌∙◌, cond, arith, length-take, length-take-le, Option, Some, None, option_to_list, codes}
 use Rattle.std.proofs.Common.{Bool, true, false, nat_lt, filter_map, sum_by, count_by, decimal}
-use Rattle.std.specs.Bool.{then_some}
 use Rattle.std.specs.Option.{option_map_or}
 use Rattle.std.specs.List.{cons_option, enumerate_from}
 use Rattle.std.proofs.lemmas.List.{take_more}
@@ -11,13 +10,12 @@ use Rattle.std.proofs.lemmas.List.Elements.{filter_map-append}
 use Rattle.std.proofs.lemmas.List.Concat.{flat_map-append}
 use Rattle.dover_model.specs.declared.events.Event.{Event}
 use Rattle.dover_model.specs.declared.events.Event.TheVariants.{Release, Complete, Abandon}
-use Rattle.dover_model.specs.Common.{Fraction, JobFacts, Instance, IsValid, Item, FinishItem, admitted_jobs}
-use Rattle.dover_model.specs.Common.{may_finish_early, finish_now, running, left, Move, Prints, handed_by}
-use Rattle.dover_model.specs.Common.{early_of as shown_early, Step, run, event_of, printed_of, printed, completed_value}
+use Rattle.dover_model.specs.Common.{Fraction, JobFacts, Instance, IsValid}
+use Rattle.dover_model.specs.Common.{may_finish_early, Prints}
+use Rattle.dover_model.specs.Common.{run, printed, completed_value}
 use Rattle.dover_model.specs.Common.{bound, with_numbers, in_lines, is_take, is_preemption, summary_lines, report}
 use Rattle.dover_model.specs.Common.{changes_hands, gets}
 use Rattle.dover_model.specs.Common.{served as model_served}
-use Rattle.dover_model.specs.declared.events.Task.{Task}
 use Rattle.dover_model.specs.Intervals as model
 use Rattle.dover_model.specs.Reports.{fate_of_event, is_completed, abandoned_number, Completed, Abandoned, lines_with}
 use Rattle.dover_model.specs.Reports.{interval_line}
@@ -26,18 +24,18 @@ use Rattle.dover_model.proofs.runs.Ending.{few_printed}
 use Rattle.dover_model.proofs.bound.BoundLaws.{intervals_abandon}
 use Rattle.dover_model.proofs.runs.ReleaseCounts.{releases}
 use Rattle.dover_model.proofs.runs.PrintedCounts.{count_printed}
-use Rattle.dover_model.proofs.sessions.RunSessions.{run_jobs}
 use Rattle.run_record.specs.intervals.Rows.{IsRunOf, numbers_of, rows_of}
 use Rattle.run_record.specs.intervals.Totals.{is_release, is_completion, is_abandonment, totals_of}
 use Rattle.run_record.specs.declared.intervals.interval.Interval.{Interval}
 use Rattle.run_record.specs.declared.intervals.totals.JobTotals.{JobTotals}
 use Rattle.run_record.proofs.intervals.Counted.{sum_more}
+use Rattle.run_record.proofs.ledger.Releases.{releases_are}
 use Rattle.run_reports.specs.report.Counts.{job_released, jobs_released, value_in, value_lost, all_lost, counts_of}
 use Rattle.run_reports.specs.report.Counts.{fates_lines, changes_line, bound_line, counts_lines}
 use Rattle.run_reports.specs.report.Early.{left_in, left_at, early_of, with_left, HasRoom, early_line, lines_where}
 use Rattle.run_reports.specs.report.Early.{early_lines}
 use Rattle.run_reports.specs.declared.report.early.Early.{Early}
-use Rattle.run_reports.specs.report.Starting.{starts_in, starts_fields}
+use Rattle.run_reports.specs.report.Courses.{course_in, starts_fields}
 use Rattle.run_reports.proofs.report.Texts.{five_parts, behind_lines}
 use Rattle.run_reports.specs.declared.report.counts.Counts.{Counts}
 use Rattle.run_reports.specs.report.Lines.{ratio_line, row_line, row_lines}
@@ -61,32 +59,6 @@ as_released : (run : List Event) → jobs_released run ≡ releases run
 as_released [] = refl
 as_released (Release n job ∷ run) = ap (λ js. job ∷ js) (as_released run)
 as_released (_ ∷ run) = as_released run
-
--- steps release the jobs that they show to have been handed in
-released_shown : (xs : List Step) → releases (printed_of xs) ≡ admitted_jobs (filter_map handed_by xs)
-released_shown [] = refl
-released_shown (x ∷ xs) = by_move x.move (released_shown xs) where
-  shown : List Item
-  shown = filter_map handed_by xs
-
-  by_early : (o : Option Task) → admitted_jobs shown ≡ admitted_jobs (cons_option (shown_early x.before.clock o) shown)
-  by_early None = refl
-  by_early (Some r) = by_left (nat_lt 0 (left r)) where
-    by_left : (b : Bool) → admitted_jobs shown ≡ admitted_jobs (cons_option
-        (then_some b (FinishItem (record { at = x.before.clock; finish = finish_now r }))) shown)
-    by_left true = refl
-    by_left false = refl
-
-  by_move : (m : Move) → releases (printed_of xs) ≡ admitted_jobs shown
-      → releases (cons_option (event_of m) (printed_of xs))
-      ≡ admitted_jobs (cons_option (handed_by (record { before = x.before; move = m })) shown)
-  by_move (Prints (Release n j)) rest = ap (λ js. j ∷ js) rest
-  by_move (Prints (Complete at n)) rest = rest ∙ by_early (running x.before)
-  by_move _ rest = rest
-
--- a run releases its jobs, in their order
-pub releases_are : (J : Instance) → IsValid J → releases (printed J) ≡ J.jobs
-releases_are J valid = released_shown (run J) ∙ run_jobs J valid
 
 -- so do the steps that it prints
 pub run_releases : (J : Instance) → IsValid J → (steps : List Event) → printed J ≡ steps → jobs_released steps ≡ J.jobs
@@ -329,8 +301,8 @@ module _ (k : Fraction) (run : List Event) (J : Instance) (of : IsRunOf k run J)
       (n ∷ count_by is_preemption (printed J) ∷ count_by is_take (printed J) ∷ [])) (all_changes J)
 
   -- when a job first got the processor, and how often it did
-  pub starts_are : (n : ℕ) → starts_fields (starts_in run n) ≡ reports.start_fields J n
-  starts_are n = ap (λ es. starts_fields (starts_in es n)) (sym of.prints)
+  pub starts_are : (n : ℕ) → starts_fields (course_in run n) ≡ reports.start_fields J n
+  starts_are n = ap (λ es. starts_fields (course_in es n)) (sym of.prints)
       ∙ ap (λ c. option_map_or decimal (reports.start_of_job J n) [] ∷ decimal c ∷ []) (all_runs J n)
 
   -- the line of those that completed early

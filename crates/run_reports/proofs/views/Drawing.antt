@@ -7,7 +7,7 @@ use Rattle.dover_model.specs.declared.events.Event.{Event}
 use Rattle.dover_model.specs.Common.{JobFacts, Instance, Fraction, summary_lines}
 use Rattle.run_reports.specs.report.Counts.{jobs_released, counts_lines}
 use Rattle.run_reports.specs.declared.report.counts.Counts.{Counts}
-use Rattle.run_reports.specs.report.Rows.{ending_in}
+use Rattle.run_reports.specs.report.Courses.{ending_in}
 use Rattle.run_reports.specs.declared.report.endings.Ending.{Ending}
 use Rattle.run_reports.specs.declared.report.endings.Ending.TheVariants.{Completed, Abandoned}
 use Rattle.run_reports.proofs.report.Counting.{jobs_are}

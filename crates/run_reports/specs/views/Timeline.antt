@@ -8,7 +8,7 @@ use Rattle.dover_model.specs.Common.{Instance, JobFacts, summary_lines, last_dea
 use Rattle.run_reports.specs.report.Counts.{jobs_released}
 use Rattle.run_reports.specs.report.Fates.{fates_of}
 use Rattle.run_reports.specs.declared.report.fates.Fates.{Fates}
-use Rattle.run_reports.specs.report.Rows.{ending_in}
+use Rattle.run_reports.specs.report.Courses.{ending_in}
 use Rattle.run_reports.specs.declared.report.endings.Ending.{Ending}
 use Rattle.run_reports.specs.declared.report.endings.Ending.TheVariants.{Completed, Abandoned}
 use Rattle.run_reports.specs.views.Templates.{Text, filled}

@@ -3,14 +3,14 @@ ghost use Rattle.std.specs.Prelude.{◌≡◌, ◌≤◌, ◌+◌, ◌++◌, ◌
 ghost use Rattle.dover_model.specs.Common.{Instance, job_numbers, in_lines, Fraction, table};
 ghost use Rattle.run_record.specs.intervals.Rows.{IsRunOf};
 ghost use Rattle.line_text.specs.Writing.{most_written};
-ghost use Rattle.run_reports.specs.report.Rows.{after_commas, ending_fields, had_fields, last_fields, names_line};
-ghost use Rattle.run_reports.specs.report.Rows.{row_text, FindsNext, GivesRow, schedule_table};
-ghost use Rattle.run_reports.specs.report.Starting.{starts_fields};
+ghost use Rattle.run_reports.specs.report.Courses.{starts_fields};
+ghost use Rattle.run_reports.specs.report.Rows.{after_commas, ending_fields, had_fields, names_line, row_text};
+ghost use Rattle.run_reports.specs.report.Rows.{FindsNext, GivesRow, schedule_table};
 
 use crate::report::counts::releases;
+use crate::report::courses::{Course, course_at, courses_of};
 use crate::report::early::{had_at, served_where};
-use crate::report::endings::{Ending, ending_at, endings};
-use crate::report::starting::{Starts, starts_at, starts_of};
+use crate::report::endings::Ending;
 use dover_model::{Event, Job, Memory, PackedEvent, Version};
 use line_text::BackLine;
 use std::alloc::Global;
@@ -22,8 +22,7 @@ pub struct TableRows {
     run: Vec<PackedEvent>,
     early: bool,
     served: Vec<u64>,
-    places: Vec<usize>,
-    starts: Vec<Starts>,
+    courses: Vec<Course>,
     // How many steps are behind, and how many jobs they release.
     next: usize,
     number: usize,
@@ -35,8 +34,8 @@ impl Model for TableRows {
 
     ghost Value = { Table };
 
-    ghost view = { λ t. rows_left t.run.items t.early t.served.items t.places.items t.starts.items
-        t.next t.number };
+    ghost view = { λ t. rows_left t.run.items t.early t.served.items t.courses.items t.next
+        t.number };
 
     ghost invariant = { λ t.
         (t.number ≤ t.next) × (t.next ≤ length t.run.items) × (length t.run.items ≤ 5_000_001) };
@@ -54,14 +53,12 @@ impl TableRows {
     {
         let early = version.may_finish_early();
         let served = served_where(alloc, early, &run)?;
-        let places = endings(alloc, &run, releases(&run))?;
-        let starts = starts_of(alloc, &run, releases(&run))?;
+        let courses = courses_of(alloc, &run, releases(&run))?;
         Ok(TableRows {
             run,
             early,
             served,
-            places,
-            starts,
+            courses,
             next: 0,
             number: 0,
         })
@@ -74,14 +71,12 @@ impl TableRows {
         requires { length run.items ≤ 5_000_001 }
         ensures { IfOk result (λ t. t.names ++ in_lines t.rows ≡ schedule_table run.items) }
     {
-        let places = endings(alloc, &run, releases(&run))?;
-        let starts = starts_of(alloc, &run, releases(&run))?;
+        let courses = courses_of(alloc, &run, releases(&run))?;
         Ok(TableRows {
             run,
             early: false,
             served: Vec::new(alloc),
-            places,
-            starts,
+            courses,
             next: 0,
             number: 0,
         })
@@ -104,11 +99,10 @@ impl TableRows {
         let Some((next, job)) = next_release(&self.run, self.next) else {
             return false;
         };
-        let ending = ending_at(&self.run, place_at(&self.places, self.number));
         let had = had_at(self.early, &self.served, self.number);
-        let starts = starts_at(&self.starts, self.number);
+        let course = course_at(&self.courses, self.number);
         line.clear();
-        write_row(line, self.number as u64, &job, ending, had, starts);
+        write_row(line, self.number as u64, &job, had, &course);
         self.next = next;
         self.number += 1;
         true
@@ -140,35 +134,17 @@ fn next_release(run: &[PackedEvent], next: usize) -> Option<(usize, Job)>
     None
 }
 
-/// The place of this number, 0 for none.
+/// Writes the row of a job before a line feed, with the ticks that it had, if these are told, and its course.
 #[inline(always)]
-fn place_at(places: &[usize], number: usize) -> usize
-    ensures { result ≡ slice_index_or places.now number 0 }
-{
-    match places.get(number) {
-        Some(place) => *place,
-        None => 0,
-    }
-}
-
-/// Writes the row of a job before a line feed, with the ticks that it had, if these are told, and when it started.
-#[inline(always)]
-fn write_row(
-    line: &mut BackLine,
-    number: u64,
-    job: &Job,
-    ending: Option<Ending>,
-    had: Option<u64>,
-    starts: Starts,
-)
+fn write_row(line: &mut BackLine, number: u64, job: &Job, had: Option<u64>, course: &Course)
     requires empty { line.old ≡ 10 ∷ [] }
     requires few { number ≤ 5_000_001 }
-    ensures text { line.new ≡ row_text number job.now ending (last_fields had starts) ++ 10 ∷ [] }
+    ensures text { line.new ≡ row_text number job.now had course.now ++ 10 ∷ [] }
     ensures fits { length line.new ≤ 168 }
 {
-    write_starts(line, starts);
+    write_starts(line, course);
     write_had(line, had);
-    write_ending(line, ending);
+    write_ending(line, course.ending);
     write_job(line, job);
     line.put_number(number);
 }
@@ -187,13 +163,13 @@ fn write_field(line: &mut BackLine, number: u64)
 /// Writes when a job first had the processor behind a comma, which is nothing where it never did, and how often it got
 /// it behind another.
 #[inline(always)]
-fn write_starts(line: &mut BackLine, starts: Starts)
+fn write_starts(line: &mut BackLine, course: &Course)
     requires { 42 + length line.old ≤ most_written }
-    ensures is { line.new ≡ after_commas (starts_fields starts) ++ line.old }
+    ensures is { line.new ≡ after_commas (starts_fields course.now) ++ line.old }
     ensures fits { length line.new ≤ 42 + length line.old }
 {
-    write_field(line, starts.count);
-    match starts.first {
+    write_field(line, course.count);
+    match course.first {
         None => line.put_word(b","),
         Some(at) => write_field(line, at),
     }

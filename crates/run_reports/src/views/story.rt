@@ -17,8 +17,7 @@ use crate::views::template::{put, put_wide};
 use crate::views::threshold::greatest_ratio;
 use dover_model::{Event, Factor, Job, Memory, PackedEvent, Ratio, Version};
 use root_compare::least_heavy;
-use run_record::intervals::weights;
-use run_record::ledger::{rooms, served};
+use run_record::ledger::{rooms, served, weights};
 use std::alloc::Global;
 
 /// The job that is asked about.
@@ -110,7 +109,7 @@ fn put_weighed(
         (rows.weights J) (tests.rooms J)) }
 {
     let worths = weights(alloc, asked.k, run)?;
-    let rooms = rooms(alloc, asked.k, jobs, run)?;
+    let rooms = rooms(alloc, asked.k, run)?;
     let served = served(alloc, jobs, run)?;
     put_story(text, asked, jobs, &served, run, &worths, &rooms)
 }

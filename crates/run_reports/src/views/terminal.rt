@@ -5,13 +5,13 @@ ghost use Rattle.run_record.specs.intervals.Rows.{IsRunOf};
 ghost use Rattle.dover_model.specs.declared.events.Event.{Event};
 ghost use Rattle.dover_model.specs.Instance.{Instance};
 ghost use Rattle.run_reports.specs.report.Counts.{counts_lines};
-ghost use Rattle.run_reports.specs.report.Rows as rows;
+ghost use Rattle.run_reports.specs.report.Courses.{course_in, ending_in, unseen};
 ghost use Rattle.run_reports.specs.views.Book.{Keeps};
 ghost use Rattle.run_reports.specs.views.Stays.{stays_of};
 ghost use Rattle.run_reports.specs.views.Timeline as picture;
 
-use crate::report::endings::{Ending, ending_at, endings};
-use crate::report::{Counts, Fates, count, fates_of, released};
+use crate::report::endings::Ending;
+use crate::report::{Counts, Course, Fates, count, courses_of, fates_of, released};
 use crate::views::signs::{put_blanks, put_signs};
 use crate::views::stays::{Stay, Stays};
 use crate::views::template::{put, put_wide};
@@ -204,13 +204,13 @@ fn put_groups(
     ensures { OnOk result (text.new.items ≡ text.old.items
         ++ picture.group_lines window.now run.now of.now jobs.now 0 (map (λ label. label.items) labels.now)) }
 {
-    let places = endings(alloc, run, jobs.len())?;
+    let courses = courses_of(alloc, run, jobs.len())?;
     let stays = Stays::of(alloc, run, jobs.len())?;
     let mut own = Vec::new(alloc);
     for group in 0..labels.len() {
         put_label(text, &labels[group])?;
         put_group(
-            text, window, run, jobs, &places, &stays, &mut own, of, group,
+            text, window, run, jobs, &courses, &stays, &mut own, of, group,
         )?;
     }
     Ok(())
@@ -231,22 +231,21 @@ fn put_group(
     window: &Window,
     run: &[PackedEvent],
     jobs: &[Job],
-    places: &[usize],
+    courses: &[Course],
     stays: &Stays,
     own: &mut Vec<Stay>,
     of: &[usize],
     group: usize,
 ) -> Result<(), Memory>
-    requires places { length places.now ≡ length jobs.now }
-    requires endings { (n : ℕ) → n < length jobs.now → rows.ending_at run.now (slice_index_or places.now n 0)
-        ≡ rows.ending_in run.now n }
+    requires courses { length courses.now ≡ length jobs.now }
+    requires each { (n : ℕ) → n < length jobs.now → slice_index_or courses.now n unseen ≡ course_in run.now n }
     requires stays { length stays.now.firsts ≡ length jobs.now }
     requires keeps { Keeps stays.now run.now }
     ensures { OnOk result (text.new.items
         ≡ text.old.items ++ picture.lines_of window.now run.now of.now group 0 jobs.now) }
 {
     for (number, job) in jobs.iter().enumerate() {
-        let ending = ending_at(run, places[number]);
+        let ending = courses[number].ending;
         let member = is_of(of, number, group);
         put_member(text, window, member, number, job, stays, own, ending)?;
     }
@@ -266,7 +265,7 @@ fn put_member(
 ) -> Result<(), Memory>
     requires known { number < length stays.now.firsts }
     requires keeps { (run : List Event) × Keeps stays.now run }
-    ensures { (run : List Event) → Keeps stays.now run → ending ≡ rows.ending_in run number →
+    ensures { (run : List Event) → Keeps stays.now run → ending ≡ ending_in run number →
         OnOk result (text.new.items ≡ text.old.items
         ++ (if member then picture.job_line_at window.now run number job.now else [])) }
 {
@@ -297,11 +296,11 @@ fn put_jobs(
     ensures { OnOk result (text.new.items
         ≡ text.old.items ++ picture.job_lines window.now run.now 0 jobs.now) }
 {
-    let places = endings(alloc, run, jobs.len())?;
+    let courses = courses_of(alloc, run, jobs.len())?;
     let stays = Stays::of(alloc, run, jobs.len())?;
     let mut own = Vec::new(alloc);
     for (number, job) in jobs.iter().enumerate() {
-        let ending = ending_at(run, places[number]);
+        let ending = courses[number].ending;
         put_met(text, window, number, job, &stays, &mut own, ending)?;
     }
     Ok(())

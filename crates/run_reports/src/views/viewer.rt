@@ -9,8 +9,7 @@ ghost use Rattle.run_reports.specs.views.Templates.{filled};
 use crate::report::{had_of, left_of, released, value_of};
 use crate::views::template::put;
 use dover_model::{Event, Job, Memory, PackedEvent, Ratio};
-use run_record::intervals::weights;
-use run_record::ledger::served;
+use run_record::ledger::{served, weights};
 use std::alloc::Global;
 
 /// The run that prints these steps as Trace Event JSON, with a tick as a microsecond: the job on the processor, each

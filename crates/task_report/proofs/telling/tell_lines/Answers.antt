@@ -1,9 +1,9 @@
-use Rattle.std.proofs.Common.{refl}
+use Rattle.std.proofs.Common.{refl, ◌∙◌}
 use Rattle.task_report.proofs.Told.{told_cut, told_none, told_put}
 use Rattle.task_report.proofs.telling.tell_lines.Goals as goal
 
 pub put_report-requires : goal.put_report-requires
-put_report-requires g c = (c.args.steps.items, c.in-Ok.ensures)
+put_report-requires g c = (c.deref.result.now, c.in-Ok.ensures)
 
 pub returns-in_default-clause-tells : goal.returns-in_default-clause-tells
 returns-in_default-clause-tells g c = λ trace S valid accepted are.
@@ -11,13 +11,13 @@ returns-in_default-clause-tells g c = λ trace S valid accepted are.
 
 pub returns-in-Ok-put_report-clause-tells : goal.returns-in-Ok-put_report-clause-tells
 returns-in-Ok-put_report-clause-tells g c = λ trace S valid accepted are.
-    told_put c.args.tasks.now trace S valid accepted c.args.steps.items are _ _ _
-    (rw c.requires.empty at (c.in-Ok-put_report.ensures.text c.args.steps.items c.in-Ok.ensures).all)
+    told_put c.args.tasks.now trace S valid accepted c.deref.result.now (c.deref.ensures.value ∙ are) _ _ _
+    (rw c.requires.empty at (c.in-Ok-put_report.ensures.text c.deref.result.now c.in-Ok.ensures).all)
 
 pub returns-clause-tells : goal.returns-clause-tells
 returns-clause-tells g c = λ trace S valid accepted are.
-    told_cut c.args.tasks.now trace S valid accepted c.args.steps.items are _ _ c.put_report.new.out
-    (rw c.requires.empty at (c.in-Err.ensures.text c.args.steps.items c.in-Ok.ensures).part)
+    told_cut c.args.tasks.now trace S valid accepted c.deref.result.now (c.deref.ensures.value ∙ are) _ _ c.put_report.new.out
+    (rw c.requires.empty at (c.in-Err.ensures.text c.deref.result.now c.in-Ok.ensures).part)
 
 pub returns-in_default-clause-cause : goal.returns-in_default-clause-cause
 returns-in_default-clause-cause g c = (refl, refl)

@@ -1,10 +1,10 @@
-use Rattle.std.proofs.Common.{◌≡◌, drop}
+use Rattle.std.proofs.Common.{drop}
 use Rattle.dover_model.specs.Common.{Fraction, Instance}
 use Rattle.run_record.specs.intervals.Rows.{IsRunOf}
-use Rattle.run_record.proofs.ledger.Walking.{IsBehind}
+use Rattle.run_record.proofs.ledger.Walking.{Reads}
 use Rattle.run_record.proofs.ledger.reading.served.Given as goal
 
 -- the steps so far are read
 abbrev pub invariant-loop-event : goal.invariant-loop-event
-invariant-loop-event l = (k : Fraction) (J : Instance) → IsRunOf k l.run J → l.fn.jobs ≡ J.jobs
-    → IsBehind J l.under_way (drop l.event-index l.run)
+invariant-loop-event l = (k : Fraction) (J : Instance) → IsRunOf k l.run J
+    → Reads J l.under_way (drop l.event-index l.run)

@@ -3,7 +3,7 @@ use Rattle.run_reports.proofs.report.Tables.{passed, found, none_found}
 use Rattle.run_reports.proofs.report.rows.next_release.Goals as goal
 
 pub loop-place-init : goal.loop-place-init
-loop-place-init c = record { same = λ ending last n. refl }
+loop-place-init c = record { same = λ had course n. refl }
 
 pub returns-in-Release : goal.returns-in-Release
 returns-in-Release c = found c.args.run.now c.args.next c.loop-place.place c.index-run-place.result c.in-Release.number

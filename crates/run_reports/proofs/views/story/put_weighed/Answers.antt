@@ -11,7 +11,7 @@ pub weights-requires : goal.weights-requires
 weights-requires c = (c.requires.run.0, c.requires.run.1)
 
 pub rooms-requires : goal.rooms-requires
-rooms-requires c = c.requires.run
+rooms-requires c = (c.requires.run.0, c.requires.run.1)
 
 pub served-requires : goal.served-requires
 served-requires c = (c.args.asked.now.k, c.requires.run)
@@ -24,7 +24,7 @@ put_story-requires-clause-same c =
 pub put_story-requires-clause-as_many : goal.put_story-requires-clause-as_many
 put_story-requires-clause-as_many c =
     rooms_length c.args.asked.now.k c.args.run.now c.requires.run.0 c.requires.run.1 c.deref-3.result.now
-    (c.deref-3.ensures.value ∙ c.in_ok-rooms.ensures c.requires.run.0 c.requires.run.1 c.requires.run.2)
+    (c.deref-3.ensures.value ∙ c.in_ok-rooms.ensures c.requires.run.0 c.requires.run.1)
 
 pub put_story-requires-clause-small : goal.put_story-requires-clause-small
 put_story-requires-clause-small c = subst (AllByRecursion (λ worth. worth ≤ 10_000_000_000_000))
@@ -41,4 +41,4 @@ returns c J of same =
     ∙ ap (λ ws. text ++ story_from version k n value jobs (served J) false run ws c.deref-3.result.now)
     (c.deref-2.ensures.value ∙ c.in_ok-worths.ensures.are J of)
     ∙ ap (λ rs. text ++ story_from version k n value jobs (served J) false run (weights J) rs)
-    (c.deref-3.ensures.value ∙ c.in_ok-rooms.ensures J of same))
+    (c.deref-3.ensures.value ∙ c.in_ok-rooms.ensures J of))

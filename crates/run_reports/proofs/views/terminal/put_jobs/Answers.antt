@@ -1,19 +1,20 @@
 use Rattle.std.proofs.Common.{◌≡◌, ◌<◌, length, ap, ◌∙◌, arith}
 use Rattle.std.proofs.lemmas.List.{get_or_default}
-use Rattle.run_reports.specs.report.Rows.{ending_at, ending_in}
+use Rattle.run_reports.specs.declared.report.courses.Course.{Course}
+use Rattle.run_reports.specs.report.Courses.{ending_in, unseen}
 use Rattle.run_reports.proofs.views.Drawing.{lines_more, lines_all}
 use Rattle.run_reports.proofs.views.terminal.put_jobs.Goals as goal
 
 pub loop-number-preserved : goal.loop-number-preserved
 loop-number-preserved c =
     let there : c.loop-number.number < length c.args.jobs.now = c.loop-number-test.true in
-    let ending : c.ending_at-ending.result ≡ ending_in c.args.run.now c.loop-number.number = c.ending_at-ending.ensures
-    ∙ ap (ending_at c.args.run.now) (c.index.ensures
-    ∙ get_or_default c.in_ok-places.places.items c.loop-number.number c.index.result.now 0
-    (let count = c.in_ok-places.ensures.count in omega (arith, count, there)))
-    ∙ c.in_ok-places.ensures.each c.loop-number.number there in
+    let ending : c.index.result.now.ending ≡ ending_in c.args.run.now c.loop-number.number =
+    ap (λ (it : Course). it.ending) (c.index.ensures
+    ∙ get_or_default c.in_ok-courses.courses.items c.loop-number.number c.index.result.now unseen
+    (let count = c.in_ok-courses.ensures.count in omega (arith, count, there))
+    ∙ c.in_ok-courses.ensures.each c.loop-number.number there) in
     lines_more c.args.window.now c.args.run.now c.args.jobs.now c.loop-number.number c.index-jobs-number.result
-    c.ending_at-ending.result c.loop-number.text.items _ _ c.index-jobs-number.is there ending
+    c.index.result.now.ending c.loop-number.text.items _ _ c.index-jobs-number.is there ending
     (c.in_ok-put_met.ensures c.args.run.now c.in_ok-stays.ensures.keeps) c.loop-number.invariant
 
 pub put_met-requires-clause-known : goal.put_met-requires-clause-known

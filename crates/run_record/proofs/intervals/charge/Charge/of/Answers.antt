@@ -1,20 +1,21 @@
-use Rattle.std.proofs.Common.{◌≡◌, ◌+◌, drop, arith, subst, sym, ap, ◌∙◌, take_all}
+use Rattle.std.proofs.Common.{◌≡◌, arith, ap, ◌∙◌, take_all}
 use Rattle.dover_model.specs.Common.{Instance, completed_value}
-use Rattle.run_record.specs.intervals.Pages.{Page, blank}
 use Rattle.run_record.specs.intervals.Rows.{IsRunOf, rows_of}
 use Rattle.run_record.specs.intervals.Totals.{totals_of}
 use Rattle.run_record.specs.declared.intervals.totals.JobTotals.{JobTotals}
 use Rattle.run_record.proofs.intervals.Counted.{totals_fit, totals_on}
-use Rattle.run_record.proofs.intervals.Reading.{Reads, reads_next, none_read}
-use Rattle.run_record.proofs.intervals.Charges.{item_next, charged, rows_bound, rows_observed, rows_honest}
-use Rattle.run_record.proofs.intervals.Charges.{rows_ordered, rows_displaced, rows_paid, rows_light, rows_completed}
-use Rattle.run_record.proofs.intervals.Charges.{rows_abandoned}
+use Rattle.run_record.proofs.intervals.Reading.{all_charged, none_charged, one_charged}
+use Rattle.run_record.proofs.intervals.Charges.{rows_bound, rows_observed, rows_honest, rows_ordered, rows_displaced}
+use Rattle.run_record.proofs.intervals.Charges.{rows_paid, rows_light, rows_completed, rows_abandoned}
+use Rattle.run_record.proofs.ledger.Walking.{few_steps, step_read}
 use Rattle.run_record.proofs.intervals.charge.Charge.of.Goals as goal
+
+pub before_run-requires : goal.before_run-requires
+before_run-requires c = omega (arith, few_steps c.args.k c.args.run.now c.requires.0 c.requires.1)
 
 pub loop-event-init : goal.loop-event-init
 loop-event-init c = record {
-  reads = λ J of. subst (λ (l : Page). Reads J l c.args.run.now) (sym c.new-ledger.ensures)
-      (subst (Reads J blank) of.prints (none_read J of.valid of.listable));
+  charges = λ J of. none_charged c.args.k c.args.run.now J of _ _ c.in_ok-under_way.ensures c.new-book.ensures;
   counted = record {
     is = c.new-totals.ensures;
     small = omega (arith, ap (λ (t : JobTotals). t.worth) c.new-totals.ensures);
@@ -26,21 +27,15 @@ add-requires c = totals_fit c.args.run.now c.loop-event.event-index c.loop-event
     c.loop-event.invariant.counted c.loop-event-test.true (omega arith)
 
 pub read-requires : goal.read-requires
-read-requires c = (reads_next c.requires.0 c.requires.1.valid c.requires.1.listable c.loop-event.ledger
-    c.event-item.result (drop (c.loop-event.event-index + 1) c.args.run.now)
-    (subst (Reads c.requires.0 c.loop-event.ledger)
-    (item_next c.args.run.now c.loop-event.event-index c.event-item.result c.event-item.is c.loop-event-test.true)
-    (c.loop-event.invariant.reads c.requires.0 c.requires.1))).0
+read-requires c = (step_read c.args.k c.args.run.now c.requires.0 c.requires.1 c.loop-event.under_way
+    c.loop-event.event-index c.event-item.result c.event-item.is c.loop-event-test.true
+    (c.loop-event.invariant.charges c.requires.0 c.requires.1).reads).of.readable
 
 pub loop-event-preserved : goal.loop-event-preserved
 loop-event-preserved c = record {
-  reads = λ J of.
-      subst (λ (l : Page). Reads J l (drop (c.loop-event.event-index + 1) c.args.run.now)) (sym c.in_ok-read.ensures)
-      (reads_next J of.valid of.listable c.loop-event.ledger c.event-item.result
-      (drop (c.loop-event.event-index + 1) c.args.run.now)
-      (subst (Reads J c.loop-event.ledger)
-      (item_next c.args.run.now c.loop-event.event-index c.event-item.result c.event-item.is c.loop-event-test.true)
-      (c.loop-event.invariant.reads J of))).1;
+  charges = λ J of. one_charged c.args.k c.args.run.now J of c.loop-event.under_way c.loop-event.book
+      c.loop-event.event-index c.event-item.result c.event-item.is c.loop-event-test.true
+      (c.loop-event.invariant.charges J of) _ _ c.in_ok-read.ensures c.in_ok-note.ensures;
   counted = totals_on c.args.run.now c.loop-event.event-index c.event-item.result c.loop-event.totals _
       c.event-item.is c.loop-event-test.true c.loop-event.invariant.counted c.add.ensures.is c.add.ensures.modest;
 }
@@ -50,12 +45,11 @@ returns-clause-totals c = c.loop-event.invariant.counted.is
     ∙ ap totals_of (take_all c.loop-event.event-index c.args.run.now (omega arith))
 
 -- the rows and the value
-done : (c : goal.After-into_parts-rows) (J : Instance) → IsRunOf c.args.k c.args.run.now J
+done : (c : goal.After-drop-under_way-inside-4) (J : Instance) → IsRunOf c.args.k c.args.run.now J
     → (c.into_parts-rows.result.0.items ≡ rows_of J) × (c.into_parts-rows.result.1 ≡ completed_value J)
 done c J of =
-    let it : (c.loop-event.ledger.rows ≡ rows_of J) × (c.loop-event.ledger.value ≡ completed_value J) =
-    charged c.args.k c.args.run.now J of c.loop-event.ledger c.loop-event.event-index (omega arith)
-    (c.loop-event.invariant.reads J of) in
+    let it = all_charged c.args.k c.args.run.now J of c.loop-event.under_way c.loop-event.book
+    c.loop-event.event-index (omega arith) (c.loop-event.invariant.charges J of) in
     (c.into_parts-rows.ensures.rows ∙ it.0, c.into_parts-rows.ensures.value ∙ it.1)
 
 pub returns-clause-rows : goal.returns-clause-rows

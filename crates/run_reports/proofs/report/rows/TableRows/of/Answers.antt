@@ -3,8 +3,7 @@ use Rattle.dover_model.specs.Session.{may_finish_early}
 use Rattle.run_record.specs.intervals.Rows.{IsRunOf}
 use Rattle.run_record.specs.intervals.Totals.{is_release}
 use Rattle.run_reports.specs.report.Counts.{jobs_released}
-use Rattle.run_reports.specs.report.Rows.{ending_at, ending_in}
-use Rattle.run_reports.specs.report.Starting.{never, starts_in}
+use Rattle.run_reports.specs.report.Courses.{course_in, unseen}
 use Rattle.run_reports.proofs.report.Counting.{releases_count, few_steps}
 use Rattle.run_reports.proofs.report.Tables.{whole_table}
 use Rattle.run_reports.proofs.report.rows.TableRows.of.Goals as goal
@@ -20,13 +19,9 @@ pub returns : goal.returns
 returns c k J of three =
     let counted : c.releases.result ≡ length (jobs_released c.args.run.items) =
     c.releases.ensures ∙ ap (count_by is_release) c.deref-3.ensures.value ∙ releases_count c.args.run.items in
-    let counted_again : c.releases-2.result ≡ length (jobs_released c.args.run.items) =
-    c.releases-2.ensures ∙ ap (count_by is_release) c.deref-5.ensures.value ∙ releases_count c.args.run.items in
-    whole_table k c.args.run.items J of c.may_finish_early-early.result c.in_ok-served.served.items
-    c.in_ok-places.places.items c.in_ok-starts.starts.items
+    whole_table c.args.run.items c.in_ok-courses.courses.items
+    (λ n low. subst (λ es. slice_index_or c.in_ok-courses.courses.items n unseen ≡ course_in es n)
+    c.deref-2.ensures.value (c.in_ok-courses.ensures.each n (omega (arith, counted, low))))
+    k J of c.may_finish_early-early.result c.in_ok-served.served.items
     (c.may_finish_early-early.ensures ∙ ap may_finish_early (sym three))
     (c.in_ok-served.ensures k J (subst (λ es. IsRunOf k es J) (sym c.deref.ensures.value) of))
-    (λ n low. subst (λ es. ending_at es (slice_index_or c.in_ok-places.places.items n 0) ≡ ending_in es n)
-    c.deref-2.ensures.value (c.in_ok-places.ensures.each n (omega (arith, counted, low))))
-    (λ n low. subst (λ es. slice_index_or c.in_ok-starts.starts.items n never ≡ starts_in es n)
-    c.deref-4.ensures.value (c.in_ok-starts.ensures.each n (omega (arith, counted_again, low))))

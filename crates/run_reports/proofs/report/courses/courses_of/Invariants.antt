@@ -1,13 +1,13 @@
 use Rattle.std.proofs.Common.{◌≡◌, ◌≤◌, length}
-use Rattle.run_reports.proofs.report.Tables.{AreRead}
-use Rattle.run_reports.proofs.report.endings.endings.Given as goal
+use Rattle.run_reports.proofs.report.CourseReading.{AreRead}
+use Rattle.run_reports.proofs.report.courses.courses_of.Given as goal
 
--- the places in the steps that are read
+-- the courses in the steps that are read
 abbrev pub invariant-loop-left : goal.invariant-loop-left
 invariant-loop-left l = record {
   short : l.left ≤ length l.run;
-  count : length l.places.items ≡ l.count;
-  each : AreRead l.run l.places.items l.count l.left;
+  count : length l.courses.items ≡ l.count;
+  each : AreRead l.run l.courses.items l.count l.left;
 }
 
 abbrev pub decreases-loop-left : goal.decreases-loop-left
