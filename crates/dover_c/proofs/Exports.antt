@@ -22,11 +22,10 @@ use denote.Triple.Clauses.{Ended, Clauses, closing}
 use denote.Triple.End.{Fins, all}
 use denote.Triple.Spec.{Meets}
 use denote.Triple.Walked.{AllGo, fits_of, has_of}
-use Rattle.dover_c.proofs.Steps.{◌≡◌, ℕ, List, [], ◌∷◌, refl, sym, w32, w64, proved, id⊢, Fml, ftrue, Val, WpFn}
-use Rattle.dover_c.proofs.Steps.{tables, ‵, ◌⊛◌, prop, Sq, ◌$◌, ◌∵◌, !, qed, done, move, drop, split, fjoin, suffices}
-use Rattle.dover_c.proofs.Steps.{group, u32, u64, unit, yes, Is, uint_Lawful, Nothing-Lawful, RawPtr}
-use Rattle.dover_c.proofs.Steps.{rawptr_Lawful, plain, nothing, Stays, walk_of, stay_dropped, Goes-dropped}
-use Rattle.dover_c.proofs.Steps.{ends_at}
+use Rattle.dover_c.proofs.Steps.{◌≡◌, ℕ, List, [], ◌∷◌, refl, sym, w32, w64, proved, id⊢, Fml, ftrue, Val, WpFn, tables}
+use Rattle.dover_c.proofs.Steps.{‵, ◌⊛◌, prop, Sq, ◌$◌, ◌∵◌, !, qed, done, move, drop, split, fjoin, suffices, group}
+use Rattle.dover_c.proofs.Steps.{u32, u64, unit, yes, Is, uint_Lawful, Nothing-Lawful, RawPtr, rawptr_Lawful, plain}
+use Rattle.dover_c.proofs.Steps.{nothing, Stays, walk_of, stay_dropped, Goes-dropped, ends_at}
 
 -- ---- types that are Copy
 

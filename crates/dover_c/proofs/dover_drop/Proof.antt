@@ -1,7 +1,7 @@
 -- `dover_drop` lends the slot at the address for one call of `end`.
-use Rattle.dover_c.proofs.Steps.{[], ◌∷◌, refl, id⊢, vunit, ◌$◌, !, move, drop, feq_i, enter, of_opd, unit_lit}
-use Rattle.dover_c.proofs.Steps.{addr, stop, no_more, and_then, returns, alloc_all, pass_all, free_all, look_at, get}
-use Rattle.dover_c.proofs.Steps.{through, sets, lands_as}
+use Rattle.dover_c.proofs.Steps.{[], ◌∷◌, refl, id⊢, vunit, ◌$◌, !, move, drop, feq_i, enter, of_opd, unit_lit, addr}
+use Rattle.dover_c.proofs.Steps.{stop, no_more, and_then, returns, alloc_all, pass_all, free_all, look_at, get, through}
+use Rattle.dover_c.proofs.Steps.{sets, lands_as}
 use Rattle.dover_c.proofs.Exports.{nought}
 use Rattle.dover_c.proofs.Lends.{lends, lends_once}
 use Rattle.dover_c.specs.Codes.{DropAnswers}
