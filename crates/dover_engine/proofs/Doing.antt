@@ -4,7 +4,7 @@ use Rattle.std.proofs.Common.{false, Option, Some, None, option_map}
 use Rattle.dover_model.specs.declared.events.Event.{Event}
 use Rattle.dover_model.specs.declared.events.Event.TheVariants as events
 use Rattle.dover_model.specs.Common.{Instance, with_finishes, is_end, settled, last_of, EarlyFinish, finish_at}
-use Rattle.dover_model.specs.Common.{may_finish_early, Finish, runner_of, Prints, behind, behind_finish, turn_under}
+use Rattle.dover_model.specs.Common.{may_finish_early, Finish, runner_of, Prints, behind, behind_finish}
 use Rattle.dover_model.proofs.finishes.Processors.{finish_prints, late_prints}
 use Rattle.dover_model.proofs.finishes.RightFinishes.{finish_says}
 use Rattle.dover_model.specs.declared.horizon.Horizon.{Horizon}
@@ -16,12 +16,13 @@ use Rattle.dover_engine.specs.Life.{life_with, Life, IsReadyFor, clock_of, spare
 use Rattle.ready_jobs.specs.Course as course
 use Rattle.ready_jobs.specs.Course.{state_of_course}
 use Rattle.dover_model.proofs.lists.Members.{some_same}
+use Rattle.dover_model.proofs.lists.Tests.{none_is_some}
 use Rattle.dover_engine.specs.Given.{Gave, IsSince}
 use Rattle.dover_engine.specs.Calls.{Holds, HasProcessor, HasNoProcessor, MayBeDone, IsDone}
 use Rattle.ready_server.proofs.Finishing.{one_finish}
 use Rattle.dover_engine.proofs.Giving.{rests_now, finish_gave}
-use Rattle.dover_engine.proofs.Lives.{two_behind, before, moved, all_of, done_gave, version_given, told_there}
-use Rattle.dover_engine.proofs.Lives.{runner_given, last_given, settled_all}
+use Rattle.dover_engine.proofs.Lives.{two_behind, K as K_of, before, moved, all_of, done_gave, version_given}
+use Rattle.dover_engine.proofs.Lives.{told_there, runner_given, last_given, settled_all}
 
 -- where jobs may finish early and all was given
 pub may_be_done : (v : Life) (at : ℕ) → IsReadyFor v at → may_finish_early v.server.ready.rules.version ≡ true
@@ -29,30 +30,27 @@ pub may_be_done : (v : Life) (at : ℕ) → IsReadyFor v at → may_finish_early
 may_be_done v at ready early =
     record { early = λ J es g. ap may_finish_early (version_given v J es g) ∙ early; ready = ready }
 
-module _ (v : Life) (at number own : ℕ) (is : number ≡ v.forgotten + own) where
-  abbrev K_of : (J : Instance) (es : List Event) → Gave v J es → Instance
-  K_of J es g = turn_under J.rules g.since
+-- a number behind others is theirs and one more number
+named_behind : (k number : ℕ) (o : Option ℕ) → option_map (λ m. k + m) o ≡ Some number
+    → (n : ℕ) × (o ≡ Some n) × (k + n ≡ number)
+named_behind k number None same = none_is_some same
+named_behind k number (Some n) same = (n, refl, some_same (k + n) number same)
 
+module _ (v : Life) (at number own : ℕ) (is : number ≡ v.forgotten + own) where
   -- the server says whether the job has the processor
   pub has_processor : IsReadyFor v at → ((K : Instance) → Rests v.server K (Mark at)
       → runner_of (settled K at) ≡ Some own) → HasProcessor v number
   has_processor ready it J es g = runner_given v J es g at ready
-      ∙ ap (option_map (λ m. v.forgotten + m)) (it (K_of J es g) (rests_now v (K_of J es g) g.told g.gave ready))
+      ∙ ap (option_map (λ m. v.forgotten + m)) (it (K_of v J es g) (rests_now v (K_of v J es g) g.told g.gave ready))
       ∙ ap Some (sym is)
 
   pub no_processor : IsReadyFor v at → ((K : Instance) → Rests v.server K (Mark at)
       → runner_of (settled K at) ≡ Some own → ⊥) → HasNoProcessor v number
   no_processor ready other J es g has =
-      let K : Instance = K_of J es g in
-      by_runner (runner_of (settled K at)) refl (sym (runner_given v J es g at ready) ∙ has)
-      (other K (rests_now v K g.told g.gave ready)) where
-        by_runner : (o : Option ℕ) → runner_of (settled (K_of J es g) at) ≡ o
-            → option_map (λ m. v.forgotten + m) o ≡ Some number
-            → (runner_of (settled (K_of J es g) at) ≡ Some own → ⊥) → ⊥
-        by_runner None e same differs = let clash : None ≡ Some number = same in cc
-        by_runner (Some n) e same differs =
-            let sum : v.forgotten + n ≡ number = some_same (v.forgotten + n) number same in
-            let one : n ≡ own = omega (arith, sum, is) in differs (e ∙ ap Some one)
+      let (n, runs, sum) = named_behind v.forgotten number (runner_of (settled (K_of v J es g) at))
+      (sym (runner_given v J es g at ready) ∙ has) in
+      other (K_of v J es g) (rests_now v (K_of v J es g) g.told g.gave ready)
+      (runs ∙ ap Some (let one : n ≡ own = omega (arith, sum, is) in one))
 
 -- what goes on so for some jobs does for them behind others
 goes_on_behind : (front : List Event) (n value : ℕ) (J K : Instance) (at : ℕ) (fs : List Event) (o : Option ℕ)
@@ -71,15 +69,12 @@ goes_on_behind front n value J K at fs (Some m) same goes = (
 module _ (v : Life) (at number own : ℕ) (is : number ≡ v.forgotten + own) (ready : IsReadyFor v at) (J0 : Instance)
     (es0 : List Event) (g0 : Gave v J0 es0) (s : ReadyServer) (e : Event)
     (it : (K : Instance) → Rests v.server K (Mark at) → Finishes v.server s K at own (Some e)) where
-  abbrev K_since : (J : Instance) (es : List Event) → Gave v J es → Instance
-  K_since J es g = turn_under J.rules g.since
-
-  abbrev rests_since : (J : Instance) (es : List Event) (g : Gave v J es) → Rests v.server (K_since J es g) (Mark at)
-  rests_since J es g = rests_now v (K_since J es g) g.told g.gave ready
+  abbrev rests_since : (J : Instance) (es : List Event) (g : Gave v J es) → Rests v.server (K_of v J es g) (Mark at)
+  rests_since J es g = rests_now v (K_of v J es g) g.told g.gave ready
 
   abbrev finish_since : (J : Instance) (es : List Event) (g : Gave v J es)
-      → Finishes v.server s (K_since J es g) at own (Some e)
-  finish_since J es g = it (K_since J es g) (rests_since J es g)
+      → Finishes v.server s (K_of v J es g) at own (Some e)
+  finish_since J es g = it (K_of v J es g) (rests_since J es g)
 
   -- what it had
   abbrev pub had_then : ℕ
@@ -96,19 +91,19 @@ module _ (v : Life) (at number own : ℕ) (is : number ≡ v.forgotten + own) (r
       → behind_finish v.forgotten (finish_since J es g).0.finish ≡ finish
   same_finish J es g =
       let fin = finish_since J es g in
-      let says = finish_says (K_since J es g) at own fin.0 fin.1 in
+      let says = finish_says (K_of v J es g) at own fin.0 fin.1 in
       let own_is : fin.0.finish.number ≡ own =
       sym (ap (λ (f : EarlyFinish). f.finish.number) says.is) ∙ says.number in
       let sum : v.forgotten + fin.0.finish.number ≡ number = omega (arith, own_is, is) in
       ap (λ n. record { number = n; had = fin.0.finish.had }) sum
       ∙ ap (λ (f : EarlyFinish). record { number = number; had = f.finish.had })
-      (one_finish v.server at (K_since J es g) (rests_since J es g) (K_since J0 es0 g0) (rests_since J0 es0 g0) own
+      (one_finish v.server at (K_of v J es g) (rests_since J es g) (K_of v J0 es0 g0) (rests_since J0 es0 g0) own
       fin.0 (finish_since J0 es0 g0).0 fin.1 (finish_since J0 es0 g0).1)
 
-  prints : (J : Instance) (es : List Event) (g : Gave v J es) → (runner_of (settled (K_since J es g) at) ≡ Some own)
-      × (last_of (settled (K_since J es g) at) < at)
+  prints : (J : Instance) (es : List Event) (g : Gave v J es) → (runner_of (settled (K_of v J es g) at) ≡ Some own)
+      × (last_of (settled (K_of v J es g) at) < at)
   prints J es g = let fin = finish_since J es g in
-      finish_prints (K_since J es g) g.gave.serves.follows.valid at own fin.0 fin.1
+      finish_prints (K_of v J es g) g.gave.serves.follows.valid at own fin.0 fin.1
 
   -- behind it the processor goes to the one that the server names
   succeeds : Holds v (λ J es. GoesOnWith (with_finishes J (finish ∷ [])) at (es ++ events.Complete at number ∷ [])
@@ -116,7 +111,7 @@ module _ (v : Life) (at number own : ℕ) (is : number ≡ v.forgotten + own) (r
   unfolding done_gave
   succeeds J es g =
       let fin = finish_since J es g in
-      let K : Instance = K_since J es g in
+      let K : Instance = K_of v J es g in
       let f : Finish = fin.0.finish in
       let J2 : Instance = with_finishes J (behind_finish v.forgotten f ∷ []) in
       let gave : Gave w J2 es = done_gave v J es g s f e
@@ -147,7 +142,7 @@ module _ (v : Life) (at number own : ℕ) (is : number ≡ v.forgotten + own) (r
         let fin = finish_since J es g in
         subst (λ f. Gave w (with_finishes J (f ∷ [])) es) (same_finish J es g)
         (done_gave v J es g s fin.0.finish e
-        (finish_gave v (K_since J es g) g.told g.gave at ready s fin.0.finish e fin.3
+        (finish_gave v (K_of v J es g) g.told g.gave at ready s fin.0.finish e fin.3
         (ap (λ d. is_end (Prints d)) fin.2)));
     next = ap (λ d. Some (behind v.forgotten v.earned d)) (finish_since J0 es0 g0).2
         ∙ ap (λ n. Some (events.Complete at n)) (sym is);
@@ -168,7 +163,7 @@ pub behind_given : (v : Life) (at own : ℕ) → IsReadyFor v at
     → ((K : Instance) → Rests v.server K (Mark at) → runner_of (settled K at) ≡ Some own)
     → Holds v (λ J es. at ≤ last_of es)
 behind_given v at own ready wrong runs J es g =
-    let K : Instance = turn_under J.rules g.since in
+    let K : Instance = K_of v J es g in
     let rests : Rests v.server K (Mark at) = rests_now v K g.told g.gave ready in
     subst (λ n. at ≤ n) (sym (last_given v J es g at ready own (runs K rests)))
     (late_prints K g.gave.serves.follows.valid at own (wrong K rests) (runs K rests))
@@ -176,8 +171,6 @@ behind_given v at own ready wrong runs J es g =
 -- a job with a number below those since hasn't it
 pub no_processor_below : (v : Life) (at number : ℕ) → number < v.forgotten → IsReadyFor v at → HasNoProcessor v number
 no_processor_below v at number low ready J es g has =
-    by_runner (runner_of (settled (turn_under J.rules g.since) at)) (sym (runner_given v J es g at ready) ∙ has) where
-      by_runner : (o : Option ℕ) → option_map (λ m. v.forgotten + m) o ≡ Some number → ⊥
-      by_runner None same = let clash : None ≡ Some number = same in cc
-      by_runner (Some n) same =
-          let sum : v.forgotten + n ≡ number = some_same (v.forgotten + n) number same in omega (arith, sum, low)
+    let (n, runs, sum) = named_behind v.forgotten number (runner_of (settled (K_of v J es g) at))
+    (sym (runner_given v J es g at ready) ∙ has) in
+    omega (arith, sum, low)
