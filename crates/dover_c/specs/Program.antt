@@ -61,11 +61,7 @@ pub record IsProgram (version : Version) (k : Fraction) (capacity : ℕ) (pasts 
 abbrev pub told : List Act → List (ℕ × JobFacts)
 told [] = []
 told (Admit job answer ∷ acts) = if answer.status == 0 then (answer.number, job) ∷ told acts else told acts
-told (Done tick f answer ∷ acts) = told acts
-told (Step mark answer ∷ acts) = told acts
-told (Finish answer ∷ acts) = told acts
-told (Ask ∷ acts) = told acts
-told (Drop ∷ acts) = told acts
+told (act ∷ acts) = told acts
 
 -- the jobs alone
 abbrev pub jobs_told : List Act → List JobFacts
@@ -74,12 +70,8 @@ jobs_told acts = map (λ n_j. n_j.1) (told acts)
 -- the early finishes that it was told were taken
 abbrev pub finishes_told : List Act → List early.Finish
 finishes_told [] = []
-finishes_told (Admit job answer ∷ acts) = finishes_told acts
 finishes_told (Done tick f answer ∷ acts) = if answer == 0 then f ∷ finishes_told acts else finishes_told acts
-finishes_told (Step mark answer ∷ acts) = finishes_told acts
-finishes_told (Finish answer ∷ acts) = finishes_told acts
-finishes_told (Ask ∷ acts) = finishes_told acts
-finishes_told (Drop ∷ acts) = finishes_told acts
+finishes_told (act ∷ acts) = finishes_told acts
 
 -- the instance of these jobs and finishes
 abbrev pub all_told : Version → Fraction → List Act → Instance
@@ -102,12 +94,9 @@ is_decision answer = nat_le 1 answer.kind && nat_le answer.kind 7
 -- what it was answered by dover_step and dover_finish
 abbrev pub answers : List Act → List Decided
 answers [] = []
-answers (Admit job answer ∷ acts) = answers acts
-answers (Done tick f answer ∷ acts) = answers acts
 answers (Step mark answer ∷ acts) = answer ∷ answers acts
 answers (Finish answer ∷ acts) = answer ∷ answers acts
-answers (Ask ∷ acts) = answers acts
-answers (Drop ∷ acts) = answers acts
+answers (act ∷ acts) = answers acts
 
 -- the decisions that it was given
 abbrev pub given : List Act → List Decided

@@ -54,6 +54,10 @@ known_at s J mark events serves =
       here t low =
           omega (arith, low, printed_low J serves.follows.valid mark serves.state events serves.given.1)
 
+-- of two that are the same, both are ready
+pub ready_too : {u v : Life} {at : ℕ} → v ≡ u → IsReadyFor u at → IsReadyFor v at
+ready_too {u} {v} {at} same = subst (λ w. IsReadyFor w at) (sym same)
+
 -- where all that is settled at a mark was given, the server rests there
 pub rests_now : (v : Life) (J : Instance) (events : List Event) (g : GaveSince v J events) {mark : ℕ}
     → IsReadyFor v mark → Rests v.server J (Mark mark)

@@ -1,25 +1,19 @@
 -- Turns that come to rest, list after list, each list in a time of its own, are one run.
-use Rattle.std.proofs.Common.{◌≡◌, ℕ, zero, suc, ◌+◌, ◌-◌, ◌≤◌, List, [], ◌∷◌, ◌++◌, length, length-append, map}
-use Rattle.std.proofs.Common.{refl, sym, ap, ◌∙◌, subst, arith, append-nil, append_assoc, drop, take, cond, nat_le}
-use Rattle.std.proofs.Common.{◌==◌, count_by, sum_by}
-use Rattle.std.specs.List.{enumerate_from}
+use Rattle.std.proofs.Common.{◌≡◌, ℕ, ◌+◌, ◌≤◌, List, [], ◌∷◌, ◌++◌, length, length-append, map, refl, sym, ap, ◌∙◌}
+use Rattle.std.proofs.Common.{subst, arith, append-nil, append_assoc}
 use Rattle.std.proofs.lemmas.List.{map-append}
-use Rattle.std.proofs.lemmas.List.Sums.{sum_by-cons}
 use Rattle.dover_model.specs.declared.events.Event.{Event}
 use Rattle.dover_model.specs.declared.events.Event.TheVariants.{End}
-use Rattle.dover_model.specs.Common.{JobFacts, IsJob, Rules, Instance, having, Finish, printed, observed}
-use Rattle.dover_model.specs.Common.{completed_value, worth, IsWithin, Each, step_at, IsAtRest, IsTurn, Turn, TurnsEnd}
-use Rattle.dover_model.specs.Common.{turn_under, turns_jobs, turns_observed, turns_finishes, one_run}
-use Rattle.dover_model.specs.Common.{completed_turns, behind, behind_finish, before_end, later_job, later_event, anew}
-use Rattle.dover_model.specs.Common.{printed_anew}
+use Rattle.dover_model.specs.Common.{JobFacts, IsJob, Rules, having, Finish, printed, observed, completed_value, worth}
+use Rattle.dover_model.specs.Common.{IsWithin, Each, step_at, IsAtRest, IsTurn, Turn, TurnsEnd, turn_under, turns_jobs}
+use Rattle.dover_model.specs.Common.{turns_observed, turns_finishes, one_run, completed_turns, behind, behind_finish}
+use Rattle.dover_model.specs.Common.{before_end, later_job, later_event, anew, printed_anew}
 use Rattle.dover_model.specs.Rest.{completed_anew}
 use Rattle.dover_model.proofs.lists.Members.{all_member, on_map, each_append}
-use Rattle.dover_model.proofs.bound.Calculus.{within_less, within_add}
 use Rattle.dover_model.proofs.rest.Anew.{anew_jobs, ends_with_all, jobs_anew, moved_runs, of_rules, within_more}
 use Rattle.dover_model.proofs.rest.Apart.{settled_at_rest}
 use Rattle.dover_model.proofs.rest.InTurns.{behind_turns, completed_more, one_more, one_run_completes, one_run_observes}
 use Rattle.dover_model.proofs.rest.InTurns.{one_run_prints, declared_within, observed_within}
-use Rattle.dover_model.proofs.rest.Parting.{worth_to, worth_append}
 use Rattle.dover_model.proofs.rest.Resting.{at_tick, RunsFrom, joined, runs_all, sees_all}
 use Rattle.dover_model.proofs.rest.Turns.{behind_none}
 use Rattle.dover_model.proofs.rest.TurnsGrowing.{ends_behind, finishes_twice}

@@ -55,14 +55,12 @@ leads_gave (Stepped to answer) v w it J es gave =
 pub admitted_append : (calls more : List Call) → admitted (calls ++ more) ≡ admitted calls ++ admitted more
 admitted_append [] more = refl
 admitted_append (Admitted job number ∷ calls) more = ap (λ js. (number, job) ∷ js) (admitted_append calls more)
-admitted_append (Done at f ∷ calls) more = admitted_append calls more
-admitted_append (Stepped to answer ∷ calls) more = admitted_append calls more
+admitted_append (call ∷ calls) more = admitted_append calls more
 
 pub finishes_append : (calls more : List Call) → finishes_in (calls ++ more) ≡ finishes_in calls ++ finishes_in more
 finishes_append [] more = refl
-finishes_append (Admitted job number ∷ calls) more = finishes_append calls more
 finishes_append (Done at f ∷ calls) more = ap (λ fs. f ∷ fs) (finishes_append calls more)
-finishes_append (Stepped to answer ∷ calls) more = finishes_append calls more
+finishes_append (call ∷ calls) more = finishes_append calls more
 
 jobs_append_calls : (calls more : List Call) → jobs_in (calls ++ more) ≡ jobs_in calls ++ jobs_in more
 jobs_append_calls calls more = ap (map (λ (n_j : ℕ × JobFacts). n_j.1)) (admitted_append calls more)
@@ -70,10 +68,9 @@ jobs_append_calls calls more = ap (map (λ (n_j : ℕ × JobFacts). n_j.1)) (adm
 
 pub decided_append : (calls more : List Call) → decided (calls ++ more) ≡ decided calls ++ decided more
 decided_append [] more = refl
-decided_append (Admitted job number ∷ calls) more = decided_append calls more
-decided_append (Done at f ∷ calls) more = decided_append calls more
 decided_append (Stepped to answer ∷ calls) more = ap (λ es. events_in answer ++ es) (decided_append calls more)
     ∙ sym (append_assoc (events_in answer) (decided calls) (decided more))
+decided_append (call ∷ calls) more = decided_append calls more
 
 -- the jobs and finishes of two lists of calls
 calls_append : (J : Instance) (calls more : List Call)

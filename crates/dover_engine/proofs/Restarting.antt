@@ -1,6 +1,6 @@
 -- Lives of an engine one after another, each begun anew by a restart.
-use Rattle.std.proofs.Common.{◌≡◌, ℕ, ◌+◌, List, [], ◌∷◌, ◌++◌, length, map, sym, ap, ◌∙◌, subst, arith}
-use Rattle.std.proofs.Common.{true, append_assoc, sum_by}
+use Rattle.std.proofs.Common.{◌≡◌, ℕ, ◌+◌, List, [], ◌∷◌, ◌++◌, length, map, refl, sym, ap, ◌∙◌, subst, arith, ◌≤◌}
+use Rattle.std.proofs.Common.{true, sum_by}
 use Rattle.std.proofs.lemmas.List.{map-append}
 use Rattle.std.proofs.lemmas.List.Sums.{sum_by-cons}
 use Rattle.dover_model.specs.declared.events.Version.{Version}
@@ -8,8 +8,8 @@ use Rattle.dover_model.specs.declared.events.Event.{Event}
 use Rattle.dover_model.specs.declared.events.Event.TheVariants as events
 use Rattle.dover_model.specs.declared.horizon.Horizon.TheVariants.{Mark}
 use Rattle.dover_model.specs.Common.{Fraction, Instance, Rules, printed, completed_value, worth, observed, IsWithin}
-use Rattle.dover_model.specs.Common.{Begins, no_jobs, behind, before_end, later_event, Turn, turn_under, end_tick, anew}
-use Rattle.dover_model.specs.Common.{Declaration, printed_anew}
+use Rattle.dover_model.specs.Common.{Begins, no_jobs, behind, before_end, later_event, Turn, turn_under, end_tick}
+use Rattle.dover_model.specs.Common.{Declaration, printed_anew, IsAtRest as IsQuiet}
 use Rattle.dover_model.proofs.rest.RestTick.{rests_from}
 use Rattle.dover_model.proofs.runs.Runs.{last_value, value_last}
 use Rattle.dover_engine.specs.Life.{Life, IsAtRest, done_value, has_ended}
@@ -17,48 +17,41 @@ use Rattle.dover_engine.specs.Given.{Gave, IsSince}
 use Rattle.dover_engine.specs.Calls.{Call, LeadsAll, Lives, all_jobs, decided, jobs_in}
 use Rattle.dover_engine.specs.Restarts.{IsRestarted, Past, LeadsThrough, LivesOn, turn_of, turns_of, jobs_anew}
 use Rattle.dover_engine.specs.Restarts.{in_one_time, value_anew}
-use Rattle.dover_engine.proofs.Lives.{turn, whole_end, rest_events}
+use Rattle.dover_engine.proofs.Lives.{turn, two_behind, whole_end, rest_events}
 use Rattle.dover_engine.proofs.LifeLaws.{stood, value_all, rest_all, ended_all, begins_all}
 use Rattle.dover_engine.proofs.InLives as lives
 use Rattle.dover_engine.proofs.Since as since
+
+-- events behind a past life
+abbrev behind_past : Past → List Event → List Event
+behind_past past es = decided past.calls
+    ++ map (behind (length (jobs_in past.calls)) past.value) (map (later_event past.tick) es)
+
+past_append : (past : Past) (xs ys : List Event) → behind_past past (xs ++ ys) ≡ behind_past past xs
+    ++ map (behind (length (jobs_in past.calls)) past.value) (map (later_event past.tick) ys)
+past_append past xs ys =
+    ap (λ es. decided past.calls ++ map (behind (length (jobs_in past.calls)) past.value) es)
+    (map-append (later_event past.tick) xs ys)
+    ∙ two_behind (decided past.calls) _ (behind (length (jobs_in past.calls)) past.value)
+    (map (later_event past.tick) xs) (map (later_event past.tick) ys) refl
 
 -- with an End behind them
 with_end : (pasts : List Past) (es : List Event) (value : ℕ) → in_one_time pasts (es ++ (events.End value ∷ []))
     ≡ in_one_time pasts es ++ (events.End (sum_by (λ (p : Past). p.value) pasts + value) ∷ [])
 with_end [] es value = ap (λ n. es ++ (events.End n ∷ [])) (let sum : value ≡ 0 + value = omega arith in sum)
-with_end (past ∷ pasts) es value =
-    ap (λ fs. decided past.calls ++ map number (map (later_event past.tick) fs)) (with_end pasts es value)
-    ∙ ap (λ fs. decided past.calls ++ fs)
-    (ap (map number) (map-append (later_event past.tick) (in_one_time pasts es) last)
-    ∙ map-append number (map (later_event past.tick) (in_one_time pasts es)) last)
-    ∙ sym (append_assoc (decided past.calls) (map number (map (later_event past.tick) (in_one_time pasts es)))
-    (map number last))
+with_end (past ∷ pasts) es value = ap (behind_past past) (with_end pasts es value)
+    ∙ past_append past (in_one_time pasts es) (events.End (sum_by (λ (p : Past). p.value) pasts + value) ∷ [])
     ∙ ap (λ n. in_one_time (past ∷ pasts) es ++ (events.End n ∷ [])) sum where
       sum : past.value + (sum_by (λ (p : Past). p.value) pasts + value)
           ≡ sum_by (λ (p : Past). p.value) (past ∷ pasts) + value
       sum = omega (arith, sum_by-cons (λ (p : Past). p.value) past pasts)
 
-      number : Event → Event
-      number = behind (length (jobs_in past.calls)) past.value
-
-      last : List Event
-      last = events.End (sum_by (λ (p : Past). p.value) pasts + value) ∷ []
-
 -- what begins other events does so behind past lives
 begins_behind : (pasts : List Past) (es fs : List Event) → Begins es fs
     → Begins (in_one_time pasts es) (in_one_time pasts fs)
 begins_behind [] es fs begins = begins
-begins_behind (past ∷ pasts) es fs begins = let it = begins_behind pasts es fs begins in (
-  map number (map (later_event past.tick) it.0),
-  ap (λ gs. decided past.calls ++ map number (map (later_event past.tick) gs)) it.1
-      ∙ ap (λ gs. decided past.calls ++ gs)
-      (ap (map number) (map-append (later_event past.tick) (in_one_time pasts es) it.0)
-      ∙ map-append number (map (later_event past.tick) (in_one_time pasts es)) (map (later_event past.tick) it.0))
-      ∙ sym (append_assoc (decided past.calls) (map number (map (later_event past.tick) (in_one_time pasts es)))
-      (map number (map (later_event past.tick) it.0))),
-) where
-  number : Event → Event
-  number = behind (length (jobs_in past.calls)) past.value
+begins_behind (past ∷ pasts) es fs begins = let it = begins_behind pasts es fs begins in
+    (_, ap (behind_past past) it.1 ∙ past_append past (in_one_time pasts es) it.0)
 
 module _ (version : Version) (k : Fraction) where
   abbrev rules : Rules
@@ -78,38 +71,31 @@ module _ (version : Version) (k : Fraction) where
     abbrev it : Gave u J (decided calls)
     it = stood version k calls u life
 
-    -- its jobs are turns
-    same : turn_of calls ≡ lives.all_of (it.turns ++ it.since ∷ [])
-    same = ap (λ (I : Instance). let T : Turn = record { jobs = I.jobs; finishes = I.rules.finishes } in T) it.all
+    -- its jobs are turns, which come to rest
+    life_at : (tick : ℕ) → it.tick ≤ tick → IsQuiet (turn_under rules it.since) tick
+        → lives.IsLife rules tick (turn_of calls)
+    life_at tick low rest = record {
+      turns = it.turns;
+      more = it.since;
+      last = it.tick;
+      over = it.over;
+      turn = turn u J (decided calls) it;
+      low = low;
+      rest = rest;
+      is = ap (λ (I : Instance). let T : Turn = record { jobs = I.jobs; finishes = I.rules.finishes } in T) it.all;
+    }
 
     abbrev end_at : ℕ
     end_at = it.tick + end_tick (turn_under rules it.since)
 
-    -- which come to rest
     some_life : lives.IsLife rules end_at (turn_of calls)
-    some_life = record {
-      turns = it.turns;
-      more = it.since;
-      last = it.tick;
-      over = it.over;
-      turn = turn u J (decided calls) it;
-      low = omega arith;
-      rest = rests_from (turn_under rules it.since) it.gave.serves.follows.valid end_at (omega arith);
-      is = same;
-    }
+    some_life = life_at end_at (omega arith)
+        (rests_from (turn_under rules it.since) it.gave.serves.follows.valid end_at (omega arith))
 
     -- at the tick at which it was ended
     past_life : (tick : ℕ) → IsAtRest u → u.last ≡ Mark tick → lives.IsLife rules tick (turn_of calls)
-    past_life tick still at = record {
-      turns = it.turns;
-      more = it.since;
-      last = it.tick;
-      over = it.over;
-      turn = turn u J (decided calls) it;
-      low = subst (IsSince it.tick) at it.passed;
-      rest = since.rests_at u (turn_under J.rules it.since) it.told it.gave still tick at;
-      is = same;
-    }
+    past_life tick still at = life_at tick (subst (IsSince it.tick) at it.passed)
+        (since.rests_at u (turn_under J.rules it.since) it.told it.gave still tick at)
 
     -- what is printed as the last life
     printed_last : printed_anew rules ((0, turn_of calls) ∷ []) ≡ printed J

@@ -3,9 +3,9 @@ use Rattle.std.proofs.Common.{◌≡◌, ℕ, List, [], ◌++◌, refl, sym, ap,
 use Rattle.std.proofs.Common.{append_assoc, None, Option, Some, IfSome, option_to_list, not, MatchBool, filter}
 use Rattle.dover_model.specs.declared.events.Event.{Event}
 use Rattle.dover_model.specs.declared.events.Task.{Task}
-use Rattle.dover_model.specs.Common.{Instance, declared_by, having, State, opening, is_over, is_done, value_sum}
-use Rattle.dover_model.specs.Common.{state_at, Prints, is_end, printed, completed_value, settled_steps, settled_state}
-use Rattle.dover_model.specs.Common.{Each, IsMember, Begins, is_ready, due_by, MayFollow}
+use Rattle.dover_model.specs.Common.{Instance, declared_by, having, State, opening, is_over, is_done, value_sum, Prints}
+use Rattle.dover_model.specs.Common.{is_end, printed, completed_value, settled_steps, settled_state, Each, IsMember}
+use Rattle.dover_model.specs.Common.{Begins, is_ready, due_by, MayFollow}
 use Rattle.dover_model.specs.Rest as rest
 use Rattle.dover_model.proofs.rest.Apart.{settled_at_rest}
 use Rattle.dover_model.proofs.settled.Barriers.{state_after}

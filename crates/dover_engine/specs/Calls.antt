@@ -202,8 +202,7 @@ pub record Lives (version : Version) (k : Fraction) (calls : List Call) (w : Lif
 abbrev pub admitted : List Call → List (ℕ × JobFacts)
 admitted [] = []
 admitted (Admitted job number ∷ calls) = (number, job) ∷ admitted calls
-admitted (Done at f ∷ calls) = admitted calls
-admitted (Stepped to answer ∷ calls) = admitted calls
+admitted (call ∷ calls) = admitted calls
 
 -- the jobs alone
 abbrev pub jobs_in : List Call → List JobFacts
@@ -212,9 +211,8 @@ jobs_in calls = map (λ n_j. n_j.1) (admitted calls)
 -- the early finishes: what each job that was done had had
 abbrev pub finishes_in : List Call → List Finish
 finishes_in [] = []
-finishes_in (Admitted job number ∷ calls) = finishes_in calls
 finishes_in (Done at f ∷ calls) = f ∷ finishes_in calls
-finishes_in (Stepped to answer ∷ calls) = finishes_in calls
+finishes_in (call ∷ calls) = finishes_in calls
 
 -- the instance of these jobs and finishes
 abbrev pub all_jobs : Version → Fraction → List Call → Instance
@@ -223,6 +221,5 @@ all_jobs version k calls = with_finishes (jobs_under version k (jobs_in calls)) 
 -- the decisions that were given
 abbrev pub decided : List Call → List Event
 decided [] = []
-decided (Admitted job number ∷ calls) = decided calls
-decided (Done at f ∷ calls) = decided calls
 decided (Stepped to answer ∷ calls) = events_in answer ++ decided calls
+decided (call ∷ calls) = decided calls

@@ -1,99 +1,24 @@
 -- `dover_step` lends the slot at the address for one call of `step`.
-use Rattle.dover_c.proofs.Steps.{ℕ, List, [], ◌∷◌, ◌++◌, refl, w64, proved, full_share, id⊢, ftrue, flft, flent, fsep}
-use Rattle.dover_c.proofs.Steps.{fex, named, vptr, WpFn, fact, tables, Body, ‵, raw, ◌⊛◌, some, later, prop, ◌$◌, ◌∵◌}
-use Rattle.dover_c.proofs.Steps.{ !, qed, done, move, keep, drop, use1, use3, split, join, fsplit, fjoin, fpack, pick}
-use Rattle.dover_c.proofs.Steps.{await, regoal, suffices, group, lft_new, lft_end, enter, of_opd, addr, stop, no_more}
-use Rattle.dover_c.proofs.Steps.{and_then, returns, alloc_all, pass_all, free_all, look_at, get, through, sets}
-use Rattle.dover_c.proofs.Steps.{lands_as, u64, yes, Is, shows, lends_ref, ref_back, mem, uint_Makes, uint_vals}
-use Rattle.dover_c.proofs.Steps.{uint_Tells, Ptr, RawPtr, block_ptr, lies_at, in_a_block, rawptr_vals, rawptr_Tells}
-use Rattle.dover_c.proofs.Steps.{MutRef, plain, nothing, owned, heard, peeks, calls_at, lasts, triple_of, Stays}
-use Rattle.dover_c.proofs.Steps.{walk_of, stay_dropped, Goes-dropped, ends_at, framed}
-use denote.RattleType.{owns}
-use Rattle.std.specs.contracts.rt.Memory as memory
-use Rattle.std.proofs.rt.Memory.TheLaws as memory_laws
-use Rattle.dover_c.specs.declared.slot.Slot.{Slot}
-use Rattle.dover_c.specs.contracts.slot.Slot.{the_row}
+use Rattle.dover_c.proofs.Steps.{List, [], ◌∷◌, refl, id⊢, ◌$◌, !, enter, of_opd, addr, stop, no_more, and_then}
+use Rattle.dover_c.proofs.Steps.{returns, alloc_all, pass_all, free_all, look_at, get, through, sets, lands_as}
+use Rattle.dover_c.proofs.Exports.{Copied, Values, copied, word64}
+use Rattle.dover_c.proofs.Lends.{lends, lends_once}
+use Rattle.std.proofs.rt.Memory.TheLaws as memory
 use Rattle.dover_c.specs.Codes.{StepAnswers}
-use Rattle.dover_c.specs.contracts.Decided as answer
-use Rattle.dover_c.proofs.Decided.TheLaws.{the_row_laws}
-use Rattle.dover_c.specs.contracts.dover_step as f
+use Rattle.dover_c.proofs.Decided.TheLaws.{the_row_laws, the_row_copy}
 use Rattle.dover_c.proofs.dover_step.Statement.{statement}
 use Rattle.dover_c.proofs.dover_step.Code as code
-use Rattle.dover_c.specs.contracts.slot.step as g
 use Rattle.dover_c.proofs.slot.step.Met.{met}
-
-abbrev stayed : Stays f.ended.signature.params f.ended.kept
-stayed = (stay_dropped _ yes, (stay_dropped _ yes, (stay_dropped _ yes, tt)))
 
 pub dover_step_spec : {M : Type 1} → statement M
 dover_step_spec 𝓤 𝓛 𝓜 𝓡 wired =
-    let c = f.clauses 𝓛 𝓜.mem 𝓡.returns in let W = walk_of 𝓛 f.ended stayed c in let 𝓣 = tables 𝓤 𝓛.H 𝓜 𝓡 𝓡.env in
-    let hand = λ (x : memory.the_row.Denot). memory_laws.the_told.val x ∷ [] in
-    proved 𝓛 f.ended stayed c 𝓜 𝓡 (
-      Goes-dropped 𝓛 0 (plain (λ _. RawPtr)) yes (λ κs x w. refl),
-      (
-        Goes-dropped 𝓛 0 (plain (λ _. u64)) yes (λ κs x w. refl),
-        (Goes-dropped 𝓛 0 (plain (λ _. memory.the_row)) yes (λ κs x w. refl), tt),
-      ),
-    )
-    f.Key.name code.function (code.unfolded 𝓤 𝓛.H 𝓜 𝓡 wired)
-    (λ κs. (rawptr_vals, (uint_vals w64, (hand, tt))))
-    (λ κs. (rawptr_Tells, (uint_Tells w64, (memory_laws.the_told.tells, tt)))) (λ κs qs bounds a v are.
-    let mark : ℕ = a.1.0 in
-    let given = a.1.1.0 in
-    let handed = ((memory_laws.the_row_laws.lawful 𝓛).typed given _ are.1.1.0).0 in
-    let y : Ptr → W.Ghost = λ p.
-    ((κs, qs, bounds, (p, (mark, (given, tt))), (rawptr_vals p, (uint_vals w64 mark, (hand given, tt)))), v) in
-    qed 𝓛 ((‵ ftrue ⊛ ‵ (owns (RawPtr ∷ u64 ∷ memory.the_row ∷ []) a (y a.0).0.4)) ∷ ‵
-    (lies_at the_row full_share a.0 v) ∷ []) ∵
-    split ! $ drop ! $ fsplit ! $ drop ! $ fsplit ! $ drop ! $ fsplit ! $ move ! (1 ∷ []) $ drop ! $ move ! (1 ∷ []) $
-    -- [the slot; the memory]
-    in_a_block ! a.0 (λ p. lies_at the_row full_share p v) (id⊢ 𝓤 _) (λ b o e.
-    regoal ! (λ p. prop (WpFn 𝓤 𝓛.H 𝓣.C 𝓣.Λ code.function (rawptr_vals p ++ (uint_vals w64 mark ++ hand given))
-    (W.post (y p)))) e refl $
-    enter ! _ _ _ _ _ $ alloc_all
-    ! (λ l. pass_all ! refl ((tt, tt), ((tt, record { fits = are.1.0.1 }), (handed, tt))) $
-    -- [the slot; the memory; the locals]
-    sets ! (of_opd ! (get ! refl)) refl (tt, tt) $
-    sets ! (addr ! (through ! refl (stop !))) refl (tt, tt) $
-    lft_new ! tt (λ α. let κ : List ℕ = α ∷ [] in move ! (1 ∷ []) $
-    use1 𝓛 (later (some (λ (γ : ℕ). ‵
-    ((MutRef (named 0) κ the_row).own_val (record { ref_ptr = (b, o); ghost_name = γ; now = v }) (vptr b o ∷ [])) ⊛
-    ‵ (flent κ (Body (mem the_row) b o γ)))))
-    (lends_ref 𝓛 the_row (named 0) κ v b o) $ await ! tt $ pick ! (λ γ. split ! $
-    -- [the loan; the lender's part; the token of α; the memory; the locals]
-    let G = triple_of 𝓛 g.signature (g.spec 𝓛 𝓜.mem 𝓡.returns) in
-    let z : G.Ghost = (
-      (
-        (κ, tt),
-        (full_share, tt),
-        tt,
-        (record { ref_ptr = (b, o); ghost_name = γ; now = v }, (mark, (given, tt))),
-        (vptr b o ∷ [], (uint_vals w64 mark, (hand given, tt))),
-      ),
-      tt,
-    ) in
-    nothing ! $ move ! (4 ∷ 0 ∷ []) $ join ! $ owned ! u64 _ (uint_Makes 𝓛 w64) mark _ (refl, are.1.0.1)
-    $ join ! $ move ! (1 ∷ 0 ∷ []) $ join ! $
-    nothing ! $ move ! (3 ∷ 0 ∷ []) $ join ! $ join ! $ nothing ! $ move ! (1 ∷ 0 ∷ [])
-    $ join ! $ use1 𝓛 (raw (G.pre z)) (id⊢ 𝓤 _) $
-    calls_at ! (framed 𝓤 𝓛.H 𝓜 𝓣) G (met 𝓤 𝓛 𝓜 𝓡 (code.calls-dover_c::slot::step 𝓡.env wired)) z
-    (and_then ! (get ! refl) (and_then ! (get ! refl) (and_then ! (get ! refl) (no_more !)))) (λ u.
-    use1 𝓛 (later (some (λ (r : answer.the_row.Denot).
-    ((‵ (flft κ full_share) ⊛ ‵ ftrue) ⊛ ‵ (answer.the_row.own_val r (u ∷ []))) ⊛
-    some (λ (ws : Slot × (Unit {0} × (Unit {0} × Unit {0}))). ‵ (lasts g.ended z.0.0 z.0.3 ws) ⊛ raw
-    (fact 𝓤 (StepAnswers mark v ws.0 r)))))) (id⊢ 𝓤 _) $
-    await ! tt $ pick ! (λ r. split ! $ split ! $ split ! $ lft_end ! tt $ move ! (2 ∷ []) $
-    -- [the answer; α is over; nothing; what the call says; the lender's part; the locals]
-    peeks ! answer.the_row (Is answer.the_row) (shows 𝓛 answer.the_row) r (u ∷ [])
-    (λ is. lands_as ! refl refl ((the_row_laws.lawful 𝓛).typed r _ is).0 $
-    move ! (3 ∷ []) $ pick ! (λ ws. split ! $ move ! (1 ∷ []) $ heard ! _ (λ told. fsplit ! $ fsplit ! $
-    -- [the slot's last value; its borrow; the rest; the answer; α is over; nothing; the lender's part]
-    move ! (4 ∷ 6 ∷ 0 ∷ []) $ use3 𝓛 (later (‵ (lies_at the_row full_share (block_ptr b o) ws.0)))
-    (ref_back 𝓛 the_row κ γ ws.0 b o) $ await ! tt $
-    returns ! (look_at ! 0 refl) $ free_all ! refl $ keep ! (0 ∷ 3 ∷ []) $
-    nothing ! $ fpack ! (StepAnswers mark v ws.0 r) (λ _. ftrue) told $ move ! (1 ∷ 0 ∷ []) $ fjoin ! $
-    fpack ! Slot (λ w. fsep (lies_at the_row full_share (block_ptr b o) w) (fex (StepAnswers mark v w r) (λ _. ftrue)))
-    ws.0 $ move ! (1 ∷ 0 ∷ []) $
-    suffices ! _ (ends_at 𝓛 f.ended stayed c (y (block_ptr b o)) u r (tt, (tt, (tt, tt))) (tt, (tt, (tt, tt)))) $
-    nothing ! $ nothing ! $ join ! $ nothing ! $ join ! $ nothing ! $ join ! $ nothing ! $ group ! 3 $ done !))))))))))
+    let gs : List Copied = word64 ∷ copied memory.the_row_laws memory.the_row_copy ∷ [] in
+    let R : Copied = copied the_row_laws the_row_copy in
+    let Says = λ (a : Values 0 tt gs). StepAnswers a.0 in
+    lends_once 𝓛 𝓜 𝓡 gs R Says code.function (code.unfolded 𝓤 𝓛.H 𝓜 𝓡 wired) (λ b o v a fit Q ends.
+    enter ! _ _ _ _ _ $ alloc_all ! (λ l. pass_all ! refl ((tt, tt), fit) $
+    sets ! (of_opd ! (get ! refl)) refl (tt, tt) $ sets ! (addr ! (through ! refl (stop !))) refl (tt, tt) $
+    lends gs R (λ _. Says) 𝓛 𝓜 𝓡 (met 𝓤 𝓛 𝓜 𝓡 (code.calls-dover_c::slot::step 𝓡.env wired)) b o v _ (λ _. a)
+    (λ _. id⊢ 𝓤 _) (λ κs i j. and_then ! (get ! refl) (and_then ! (get ! refl) (and_then ! (get ! refl) (no_more !))))
+    (λ u r w is said.
+    lands_as ! refl refl is $ returns ! (look_at ! 0 refl) $ free_all ! refl $ ends u r w said.1)))

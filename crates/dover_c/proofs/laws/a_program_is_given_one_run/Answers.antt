@@ -1,6 +1,7 @@
-use Rattle.dover_c.proofs.Programs.{numbers, settled_given, ended_given, given_append, begins_given, within_given}
-use Rattle.dover_c.proofs.Programs.{observed_given, as_declared_given, honest_given, underload_given, unlost_given}
-use Rattle.dover_c.proofs.Programs.{done_given, within_anew, observed_anew, value_anew}
+use Rattle.dover_c.proofs.Acts.{given_append}
+use Rattle.dover_c.proofs.Programs.{numbers, settled_given, ended_given, begins_given, within_given, observed_given}
+use Rattle.dover_c.proofs.Programs.{as_declared_given, honest_given, underload_given, unlost_given, done_given}
+use Rattle.dover_c.proofs.Programs.{within_anew, observed_anew, value_anew}
 use Rattle.dover_c.proofs.laws.a_program_is_given_one_run.Goals as goal
 
 pub returns-clause-numbers : goal.returns-clause-numbers

@@ -6,7 +6,7 @@ use Rattle.dover_engine.specs.Kept.{life_of}
 use Rattle.dover_engine.specs.Life.{life_with, Life, IsReadyFor, HasPaid}
 use Rattle.dover_engine.specs.Given.{Gave}
 use Rattle.dover_engine.specs.Calls.{IsAdmitted, IsCause}
-use Rattle.dover_engine.proofs.Giving.{rests_there, may_admit, job_gave}
+use Rattle.dover_engine.proofs.Giving.{ready_too, rests_there, may_admit, job_gave}
 use Rattle.dover_engine.proofs.Lives.{admit_gave, has_cause, refused_cause}
 use Rattle.dover_engine.specs.declared.causes.NotAdmitted.TheVariants.{Full, Numbers}
 use Rattle.std.proofs.lemmas.Bool.{false≢true}
@@ -19,8 +19,7 @@ admit-event-requires-clause-valid c =
     let K : Instance = turn_under kept.jobs.rules g.since in
     let v : Life = life_of c.self.inside in
     let ready = subst (λ (j : JobFacts). IsReadyFor v j.release) (sym c.in-Ok.ensures.job)
-    (subst (λ u. IsReadyFor u c.args.release) (sym c.self.view_is)
-    (c.is_ready_for.ensures.0 c.if-not-is_ready_for.false)) in
+    (ready_too c.self.view_is (c.is_ready_for.ensures.0 c.if-not-is_ready_for.false)) in
     let none = subst (λ (j : JobFacts). refusal_of v.admission.rules g.since.jobs j ≡ None) (sym c.in-Ok.ensures.job)
     (c.in-Ok.ensures.refusal g.since.jobs g.gave.admission) in
     (K, rests_there v K g.told g.gave c.in-Ok.job ready, may_admit v K g.told g.gave c.in-Ok.job ready none)
@@ -31,8 +30,7 @@ returns-clause-ok c =
     let w : Life = life_with c.admit-event.new.self c.admit.new.self v.last false (Some c.admit-event.result)
     v.forgotten v.earned in
     let ready = subst (λ (j : JobFacts). IsReadyFor v j.release) (sym c.in-Ok.ensures.job)
-    (subst (λ u. IsReadyFor u c.args.release) (sym c.self.view_is)
-    (c.is_ready_for.ensures.0 c.if-not-is_ready_for.false)) in
+    (ready_too c.self.view_is (c.is_ready_for.ensures.0 c.if-not-is_ready_for.false)) in
     subst (λ u. IsAdmitted u w
     (job_of_numbers c.args.release c.args.work c.args.deadline c.args.value)
     (c.self.inside.forgotten + c.from.result)) c.self.view_is
@@ -58,8 +56,7 @@ pub returns-in-Err-clause-cause : goal.returns-in-Err-clause-cause
 returns-in-Err-clause-cause c =
     let v : Life = life_of c.self.inside in
     let job : JobFacts = job_of_numbers c.args.release c.args.work c.args.deadline c.args.value in
-    let ready = subst (λ u. IsReadyFor u c.args.release) (sym c.self.view_is)
-    (c.is_ready_for.ensures.0 c.if-not-is_ready_for.false) in
+    let ready = ready_too c.self.view_is (c.is_ready_for.ensures.0 c.if-not-is_ready_for.false) in
     subst (λ u. IsCause u job c.cause_behind.result) c.self.view_is
     (subst (IsCause v job) (sym c.cause_behind.ensures)
     (refused_cause v job c.in-Err.refused ready c.in-Err.ensures.refusal c.in-Err.ensures.other))
@@ -98,8 +95,7 @@ returns-then-spare-eq0-clause-cause c =
     let v : Life = life_of c.self.inside in
     let job : JobFacts = job_of_numbers c.args.release c.args.work c.args.deadline c.args.value in
     subst (λ u. IsCause u job Full) c.self.view_is (
-      subst (λ u. IsReadyFor u c.args.release) (sym c.self.view_is)
-          (c.is_ready_for.ensures.0 c.if-not-is_ready_for.false),
+      ready_too c.self.view_is (c.is_ready_for.ensures.0 c.if-not-is_ready_for.false),
       has_cause v job None c.in-Ok.ensures.refusal,
       sym c.spare.ensures ∙ c.if-spare-eq0.true,
     )
@@ -119,8 +115,7 @@ returns-then-number-ge-MOST_NUMBERED-clause-cause c =
     let v : Life = life_of c.self.inside in
     let job : JobFacts = job_of_numbers c.args.release c.args.work c.args.deadline c.args.value in
     subst (λ u. IsCause u job Numbers) c.self.view_is (
-      subst (λ u. IsReadyFor u c.args.release) (sym c.self.view_is)
-          (c.is_ready_for.ensures.0 c.if-not-is_ready_for.false),
+      ready_too c.self.view_is (c.is_ready_for.ensures.0 c.if-not-is_ready_for.false),
       has_cause v job None c.in-Ok.ensures.refusal,
       omega (arith, c.if-spare-eq0.false, c.spare.ensures),
       omega (arith, c.if-number-ge-MOST_NUMBERED.true, c.from.ensures, c.count.ensures),

@@ -26,14 +26,12 @@ returns-in-Some-clause-gave g c J events gave =
 
 pub invariant_of-self : goal.invariant_of-self
 invariant_of-self g c =
-    let kept = c.self.invariant in
-    let v : Life = life_of c.self.inside in
-    let may = subst (λ u. MayFollow u.last c.args.to) (sym c.self.view_is) c.requires in record {
+    let kept = c.self.invariant in record {
       jobs = kept.jobs;
-      events = kept.events ++ option_to_list (option_map (behind v.forgotten v.earned) (Some c.in-Some.event));
-      gave = decide_gave v kept.jobs kept.events kept.gave c.args.to may v.server false (Some c.in-Some.event)
-          (came_gave v (turn_under kept.jobs.rules kept.gave.since) kept.gave.told kept.gave.gave c.args.to may
-          c.in-Some.event c.in-Some.is);
+      events = kept.events ++ option_to_list
+          (option_map (behind c.args.self.now.forgotten c.args.self.now.earned) (Some c.in-Some.event));
+      gave = returns-in-Some-clause-gave g c kept.jobs kept.events
+          (subst (λ u. Gave u kept.jobs kept.events) c.self.view_is kept.gave);
       numbered_fits = kept.numbered_fits;
       earned_fits = kept.earned_fits;
     }

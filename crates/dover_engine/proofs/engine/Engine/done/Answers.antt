@@ -5,12 +5,13 @@ use Rattle.dover_model.specs.declared.horizon.Horizon.TheVariants.{Mark}
 use Rattle.ready_server.specs.Serving.{Rests, Finishes}
 use Rattle.ready_server.specs.declared.server.ReadyServer.{ReadyServer}
 use Rattle.dover_engine.specs.Kept.{life_of}
-use Rattle.dover_engine.specs.Life.{life_with, Life, IsReadyFor, HasPaid}
+use Rattle.dover_engine.specs.Life.{life_with, Life, HasPaid}
 use Rattle.dover_engine.specs.Given.{Gave}
 use Rattle.dover_engine.specs.Calls.{IsDone, IsNotDone, MayBeDone}
 use Rattle.dover_engine.specs.declared.causes.NotDone.TheVariants.{Behind}
-use Rattle.dover_engine.proofs.Giving.{rests_now}
-use Rattle.dover_engine.proofs.Lives.{version_given, may_be_done, has_processor, behind_given, had_then, is_done}
+use Rattle.dover_engine.proofs.Giving.{rests_now, ready_too}
+use Rattle.dover_engine.proofs.Lives.{version_given}
+use Rattle.dover_engine.proofs.Doing.{may_be_done, has_processor, behind_given, had_then, is_done}
 use Rattle.dover_engine.proofs.engine.Engine.done.Goals as goal
 
 pub returns-then-not-may_finish_early-clause-cause : goal.returns-then-not-may_finish_early-clause-cause
@@ -33,7 +34,7 @@ returns-in_default-clause-cause c =
     let v : Life = life_of c.self.inside in
     let ready = c.is_ready_for.ensures.0 c.if-not-is_ready_for.false in
     let may : MayBeDone v c.args.at =
-    may_be_done v c.args.at (subst (λ u. IsReadyFor u c.args.at) (sym c.self.view_is) ready)
+    may_be_done v c.args.at (ready_too c.self.view_is ready)
     (sym (ap may_finish_early c.version.ensures) ∙ sym c.may_finish_early.ensures ∙ c.if-not-may_finish_early.false)
     in (
       subst (λ u. MayBeDone u c.args.at) c.self.view_is may,
@@ -43,8 +44,7 @@ returns-in_default-clause-cause c =
 pub returns-in_default-finish-clause-kept : goal.returns-in_default-finish-clause-kept
 returns-in_default-finish-clause-kept c =
     let v : Life = life_of c.self.inside in
-    let ready = subst (λ u. IsReadyFor u c.args.at) (sym c.self.view_is)
-    (c.is_ready_for.ensures.0 c.if-not-is_ready_for.false) in
+    let ready = ready_too c.self.view_is (c.is_ready_for.ensures.0 c.if-not-is_ready_for.false) in
     let kept = c.self.invariant.gave in
     let K : Instance = turn_under c.self.invariant.jobs.rules kept.since in
     let none : Finishes v.server c.finish.new.self K c.args.at c.in-Some.own None =
@@ -70,8 +70,7 @@ returns-in_default-finish-clause-paid c start now paid =
 pub returns-in_default-finish-clause-cause : goal.returns-in_default-finish-clause-cause
 returns-in_default-finish-clause-cause c =
     let v : Life = life_of c.self.inside in
-    let ready = subst (λ u. IsReadyFor u c.args.at) (sym c.self.view_is)
-    (c.is_ready_for.ensures.0 c.if-not-is_ready_for.false) in
+    let ready = ready_too c.self.view_is (c.is_ready_for.ensures.0 c.if-not-is_ready_for.false) in
     let is : c.args.number ≡ v.forgotten + c.in-Some.own =
     subst (λ (u : Life). c.args.number ≡ u.forgotten + c.in-Some.own) (sym c.self.view_is) c.in-Some.ensures.some in
     let runs : (K : Instance) → Rests v.server K (Mark c.args.at) → runner_of (settled K c.args.at) ≡ Some c.in-Some.own
@@ -91,8 +90,7 @@ returns-in_default-finish-clause-cause c =
 pub returns-clause-ok : goal.returns-clause-ok
 returns-clause-ok c =
     let v : Life = life_of c.self.inside in
-    let ready = subst (λ u. IsReadyFor u c.args.at) (sym c.self.view_is)
-    (c.is_ready_for.ensures.0 c.if-not-is_ready_for.false) in
+    let ready = ready_too c.self.view_is (c.is_ready_for.ensures.0 c.if-not-is_ready_for.false) in
     let is : c.args.number ≡ v.forgotten + c.in-Some.own =
     subst (λ (u : Life). c.args.number ≡ u.forgotten + c.in-Some.own) (sym c.self.view_is) c.in-Some.ensures.some in
     let kept = c.self.invariant in

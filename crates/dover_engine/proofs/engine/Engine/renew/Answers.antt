@@ -1,4 +1,4 @@
-use Rattle.std.proofs.Common.{◌+◌, refl, sym, ap, ap₂, ◌∙◌, subst, arith, [], length}
+use Rattle.std.proofs.Common.{◌+◌, sym, ap, ap₂, ◌∙◌, subst, arith, [], length}
 use Rattle.dover_model.specs.Rest.{turn_under}
 use Rattle.ready_jobs.proofs.Courses.{no_items}
 use Rattle.dover_engine.specs.Kept.{life_of}
@@ -19,16 +19,12 @@ returns-clause-gave c J events gave =
       settled = c.if-not-self.false;
       none = no_items v.server.ready.ready (c.is_idle.ensures.0 c.if-not-is_idle.false);
     } in
-    subst (λ earned. Gave (life_with c.renew.new.self c.new-self-inside.result v.last v.settled v.coming (v.forgotten +
-    c.from-jobs.result) earned) J events) (sym c.add.ensures)
-    (subst (λ n. Gave (life_with c.renew.new.self c.new-self-inside.result v.last v.settled v.coming (v.forgotten +
-    n) (v.earned + c.value-value.result)) J events) (sym (c.from-jobs.ensures ∙ c.count.ensures))
-    (subst (λ value. Gave (life_with c.renew.new.self c.new-self-inside.result v.last v.settled v.coming
-    (v.forgotten + v.admission.count) (v.earned + value)) J events) (sym c.value-value.ensures.is)
-    (renew_gave v J events it still c.renew.new.self c.new-self-inside.result
-    (c.renew.ensures.rests (turn_under J.rules it.since)) c.new-self-inside.ensures.stands
+    renew_gave v J events it still c.renew.new.self c.new-self-inside.result (v.forgotten + c.from-jobs.result)
+    c.add.new.self (c.renew.ensures.rests (turn_under J.rules it.since)) c.new-self-inside.ensures.stands
     (c.new-self-inside.ensures.rules
-    ∙ ap₂ (λ k version. record { ratio = k; version = version }) c.ratio.ensures c.version.ensures))))
+    ∙ ap₂ (λ k version. record { ratio = k; version = version }) c.ratio.ensures c.version.ensures)
+    (ap (λ n. v.forgotten + n) (c.from-jobs.ensures ∙ c.count.ensures))
+    (c.add.ensures ∙ ap (λ n. v.earned + n) c.value-value.ensures.is)
 
 pub invariant_of-self : goal.invariant_of-self
 invariant_of-self c =
@@ -58,13 +54,12 @@ returns-clause-paid c start now paid =
     let v : Life = life_of c.self.inside in
     let it = subst (λ u. HasPaid u start now) (sym c.self.view_is) paid in
     let kept = c.self.invariant in
-    subst (λ n. HasPaid (life_with c.renew.new.self c.new-self-inside.result v.last v.settled v.coming (v.forgotten
-    + n) c.add.new.self) start now) (sym (c.from-jobs.ensures ∙ c.count.ensures))
-    (renew_paid v kept.jobs kept.events kept.gave
-    (no_items v.server.ready.ready (c.is_idle.ensures.0 c.if-not-is_idle.false)) start now it (life_with
-    c.renew.new.self c.new-self-inside.result v.last v.settled v.coming (v.forgotten + v.admission.count)
-    c.add.new.self) refl (c.new-self-inside.ensures.rules
-    ∙ ap₂ (λ k version. record { ratio = k; version = version }) c.ratio.ensures c.version.ensures))
+    renew_paid v kept.jobs kept.events kept.gave
+    (no_items v.server.ready.ready (c.is_idle.ensures.0 c.if-not-is_idle.false)) start now it
+    (life_with c.renew.new.self c.new-self-inside.result v.last v.settled v.coming (v.forgotten + c.from-jobs.result)
+    c.add.new.self) (ap (λ n. v.forgotten + n) (c.from-jobs.ensures ∙ c.count.ensures))
+    (c.new-self-inside.ensures.rules
+    ∙ ap₂ (λ k version. record { ratio = k; version = version }) c.ratio.ensures c.version.ensures)
 
 pub returns-clause-anew : goal.returns-clause-anew
 returns-clause-anew c = λ rest. c.new-self-inside.ensures.stands

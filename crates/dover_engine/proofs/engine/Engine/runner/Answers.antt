@@ -3,7 +3,7 @@ use Rattle.dover_model.proofs.lists.Tests.{never}
 use Rattle.dover_engine.specs.Kept.{life_of}
 use Rattle.dover_engine.specs.Life.{Life, IsReadyFor}
 use Rattle.dover_engine.specs.Calls.{HasNoProcessor}
-use Rattle.dover_engine.proofs.Lives.{no_processor, no_processor_below}
+use Rattle.dover_engine.proofs.Doing.{no_processor, no_processor_below}
 use Rattle.dover_engine.proofs.engine.Engine.runner.Goals as goal
 
 pub returns-then-number-self-clause-none : goal.returns-then-number-self-clause-none
