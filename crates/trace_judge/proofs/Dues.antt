@@ -8,7 +8,7 @@ use Rattle.std.proofs.lemmas.Bool.{and_parts}
 use Rattle.std.proofs.Math.Seq.{take-length}
 use Rattle.dover_model.specs.declared.events.Event.{Event}
 use Rattle.dover_model.specs.Common.{whole_lines, rest_of, printed, Session, instance_of, is_valid_session, AreShort}
-use Rattle.dover_model.specs.Common.{step_numbers, Expected, Header, Nothing, Verdict, Accepted, Wrong, named_session}
+use Rattle.dover_model.specs.Common.{step_numbers, Expected, Nothing, Verdict, Accepted, Wrong, named_session}
 use Rattle.dover_model.specs.Common.{begins_trace, begins_trace_of, ends_with_end, is_empty, text_lines, first_wrong}
 use Rattle.dover_model.specs.Common.{expected_after, good_verdict, wrong_verdict, verdict}
 use Rattle.dover_model.specs.Verdict.{Step, Short, step_after}

@@ -3,7 +3,7 @@ use Rattle.std.proofs.Common.{◌≡◌, ℕ, ◌≤◌, List, ◌∷◌, ◌++�
 use Rattle.std.specs.Bool.{then_some}
 use Rattle.std.specs.List.{AllByRecursion, list_all, filter}
 use Rattle.dover_model.specs.Common.{IsJob, Fraction, AreShort, Rules, Instance, IsValid, State, is_over, is_done}
-use Rattle.dover_model.specs.Common.{value_sum, Move, Prints, Waits, Ticks, step, ending, ◌or_else◌, printed}
+use Rattle.dover_model.specs.Common.{value_sum, Move, Prints, Ticks, step, ending, ◌or_else◌, printed}
 use Rattle.dover_model.specs.Common.{printed_of, IsMember, Keeps, Session, instance_of, fields_of, step_numbers}
 use Rattle.dover_model.specs.Common.{PrintsNext}
 use Rattle.dover_model.specs.declared.events.Event.{Event}

@@ -34,7 +34,7 @@ use Rattle.trace_judge.specs.declared.stage.TraceStage.{TraceStage}
 use Rattle.trace_judge.specs.declared.stage.TraceStage.TheVariants.{Opening, Going, Ended}
 use Rattle.trace_judge.specs.declared.verdict.Expected.{Expected}
 use Rattle.trace_judge.specs.declared.verdict.Verdict.{Verdict}
-use Rattle.trace_judge.specs.declared.verdict.Verdict.TheVariants.{Accepted, Wrong, Short}
+use Rattle.trace_judge.specs.declared.verdict.Verdict.TheVariants.{Accepted}
 use Rattle.dover_model.specs.declared.events.Version.{Version}
 use Rattle.trace_judge.specs.declared.judge.Found.{Found}
 use Rattle.trace_judge.specs.declared.judge.Found.TheVariants.{Good, Wrong as Bad, NoMemory}

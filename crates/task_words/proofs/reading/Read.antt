@@ -1,8 +1,8 @@
 -- What is read of a task text's line.
 use Rattle.std.proofs.Common.{◌≡◌, ◌≢◌, ℕ, suc, ◌<◌, List, [], ◌∷◌, ◌++◌, length, take, drop, refl, sym, ap, ◌∙◌, subst}
 use Rattle.std.proofs.Common.{Bool, true, false, cond, Option, Some, None, arith, codes, Result, Ok, Err, IfOk}
-use Rattle.std.proofs.Common.{bytes_eq, option_and_then, option_map, append-nil, ◌+◌, ◌-◌, ◌≤◌, ◌==◌, set, get_or}
-use Rattle.std.proofs.Common.{length-take, take_all}
+use Rattle.std.proofs.Common.{bytes_eq, option_and_then, option_map, append-nil, ◌+◌, ◌-◌, ◌≤◌, ◌==◌, set, length-take}
+use Rattle.std.proofs.Common.{take_all}
 use Rattle.std.proofs.lemmas.List.{take_more_set}
 use Rattle.std.proofs.lemmas.List.Splits.{length-slice_split}
 use denote.Ref.{Bor}
@@ -233,14 +233,3 @@ no_name field rest = by (fields_of rest) (omega (arith, length-slice_split (λ b
   by : (fields : List (List ℕ)) → 1 ≤ length fields → name_of (field ∷ fields) ≡ None
   by [] some = absurd (omega (arith, some))
   by (next ∷ fields) some = refl
-
--- five numbers are a task's
-pub five_are : (name : TaskName) (ns : List ℕ) → length ns ≡ 5 → task_numbers_line name ns ≡ Some (Task
-    (task_of_numbers name (get_or ns 0 0) (get_or ns 1 0) (get_or ns 2 0) (get_or ns 3 0) (get_or ns 4 0)))
-five_are name [] five = absurd (omega arith)
-five_are name (o ∷ []) five = absurd (omega arith)
-five_are name (o ∷ p ∷ []) five = absurd (omega arith)
-five_are name (o ∷ p ∷ w ∷ []) five = absurd (omega arith)
-five_are name (o ∷ p ∷ w ∷ d ∷ []) five = absurd (omega arith)
-five_are name (o ∷ p ∷ w ∷ d ∷ v ∷ []) five = refl
-five_are name (o ∷ p ∷ w ∷ d ∷ v ∷ n ∷ ns) five = absurd (omega arith)

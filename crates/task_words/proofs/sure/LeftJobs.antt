@@ -1,9 +1,9 @@
 -- The jobs that are left, step by step.
-use Rattle.std.proofs.Common.{◌≡◌, ℕ, zero, suc, ◌+◌, ◌-◌, ◌≤◌, ◌<◌, List, [], ◌∷◌, ◌++◌, length, refl, sym, ap}
-use Rattle.std.proofs.Common.{◌∙◌, drop, eqb, arith, max}
+use Rattle.std.proofs.Common.{◌≡◌, ℕ, zero, suc, ◌+◌, ◌≤◌, ◌<◌, List, [], ◌∷◌, ◌++◌, length, refl, sym, ap}
+use Rattle.std.proofs.Common.{◌∙◌, drop, eqb, arith}
 use Rattle.std.proofs.lemmas.List.{drop_more}
 use Rattle.std.specs.List.{enumerate_from}
-use Rattle.dover_model.specs.Sure.{Stream, stream_at, blank_stream, most_crossing, others, best_of}
+use Rattle.dover_model.specs.Sure.{Stream, stream_at, blank_stream, most_crossing, others}
 use Rattle.task_words.specs.sure.Kept.{copies, left_from}
 use Rattle.task_words.specs.sure.Streams.{count_beside}
 use Rattle.task_words.proofs.sure.Beside.{copied, length_others}

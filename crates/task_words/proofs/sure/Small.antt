@@ -1,13 +1,12 @@
 -- Tasks that may stand together are small streams.
-use Rattle.std.proofs.Common.{◌≡◌, ℕ, zero, suc, ◌+◌, ◌*◌, ◌≤◌, ◌<◌, ◌⊎◌, inl, inr, List, [], ◌∷◌, length}
-use Rattle.std.proofs.Common.{refl, sym, ap, ◌∙◌, subst, get_or, arith}
-use Rattle.std.specs.List.{AllByRecursion, sum_by}
+use Rattle.std.proofs.Common.{◌≡◌, ℕ, zero, suc, ◌+◌, ◌*◌, ◌≤◌, ◌<◌, ◌⊎◌, inl, inr, List, [], ◌∷◌, length, refl, sym}
+use Rattle.std.proofs.Common.{ap, ◌∙◌, subst, get_or, arith}
+use Rattle.std.specs.List.{AllByRecursion}
 use Rattle.std.specs.Int.{div_ceil}
 use Rattle.std.proofs.Math.Nat.{mul-le-mul_right, mul-le-mul_left}
 use Rattle.std.proofs.lemmas.Bool.{cases_lt}
 use Rattle.std.proofs.lemmas.Grind.{div_ceil_times}
 use Rattle.std.proofs.lemmas.List.{length-map, get_or-map}
-use Rattle.std.proofs.lemmas.List.Sums.{sum_by-cons}
 use Rattle.dover_model.specs.Common.{Fraction, Stream, stream_at, blank_stream, most_crossing}
 use Rattle.dover_model.proofs.valid.JobLimits.{job_limits}
 use Rattle.task_words.specs.tasks.Limits.{IsTask, AreTasks}
@@ -86,15 +85,3 @@ few_cross s small = by_order (cases_lt s.span (div_ceil s.span s.apart)) where
       mul-le-mul_right s.apart (omega (arith, more)) in
       let once : s.span * 1 ≤ s.span * s.apart = mul-le-mul_left s.span apart in
       omega (arith, bounds.1, times, once))
-
--- a sum over tasks by their streams
-pub sum_of_streams : (f : Stream → ℕ) (tasks : List PeriodicTask)
-    → sum_by (λ t. f (stream_of t)) tasks ≡ sum_by f (streams_of tasks)
-sum_of_streams f [] = refl
-sum_of_streams f (t ∷ tasks) =
-    omega (
-      arith,
-      sum_by-cons (λ x. f (stream_of x)) t tasks,
-      sum_by-cons f (stream_of t) (streams_of tasks),
-      sum_of_streams f tasks,
-    )

@@ -5,11 +5,6 @@ use Rattle.dialogue.proofs.turns.converse.Goals as goal
 pub answer-requires-clause-empty : goal.answer-requires-clause-empty
 answer-requires-clause-empty g c = (c.in-Ok.ensures.stands c.requires.0 c.requires.1).3
 
-pub answer-requires-clause-ready : goal.answer-requires-clause-ready
-answer-requires-clause-ready g c =
-    let was = c.in-Ok.ensures.stands c.requires.0 c.requires.1 in
-    (c.requires.0, was.0, was.1, was.2)
-
 pub returns-in-Err-NoMemory-clause-talks : goal.returns-in-Err-NoMemory-clause-talks
 returns-in-Err-NoMemory-clause-talks g c =
     λ a s. lacking _ (c.laws.ensures.steady a) _ c.in-Ok.ended _ _ (c.in-Ok.ensures.reads a s)
@@ -74,31 +69,3 @@ returns-in-Err-clause-causes g c = c.in-Err.ensures.causes
 
 pub returns-in-Err-clause-stops : goal.returns-in-Err-clause-stops
 returns-in-Err-clause-stops g c = c.in-Err.ensures.stops
-
-pub returns-in-Err-NoMemory-clause-causes : goal.returns-in-Err-NoMemory-clause-causes
-returns-in-Err-NoMemory-clause-causes g c =
-    let it = rw c.in-Err-NoMemory.field-0-is at c.in-Err-NoMemory.ensures.cause in
-    (it.1 ∙ c.in-Ok.ensures.causes.0, it.0 ∙ c.in-Ok.ensures.causes.1)
-
-pub returns-in-Err-NoMemory-clause-stops : goal.returns-in-Err-NoMemory-clause-stops
-returns-in-Err-NoMemory-clause-stops g c = λ well.
-    (rw c.in-Err-NoMemory.field-0-is at c.in-Err-NoMemory.ensures.stops) (c.in-Ok.ensures.stops well)
-
-pub returns-in-Err-Unwritten-clause-causes : goal.returns-in-Err-Unwritten-clause-causes
-returns-in-Err-Unwritten-clause-causes g c =
-    let it = rw c.in-Err-Unwritten.field-0-is at c.in-Err-Unwritten.ensures.cause in
-    (it.1 ∙ c.in-Ok.ensures.causes.0, rw c.in-Ok.ensures.causes.1 at it.0)
-
-pub returns-in-Err-Unwritten-clause-stops : goal.returns-in-Err-Unwritten-clause-stops
-returns-in-Err-Unwritten-clause-stops g c = λ well.
-    (rw c.in-Err-Unwritten.field-0-is at c.in-Err-Unwritten.ensures.stops) (c.in-Ok.ensures.stops well)
-
-pub returns-in-Err-flush-clause-causes : goal.returns-in-Err-flush-clause-causes
-returns-in-Err-flush-clause-causes g c = (
-  c.in-Err-flush.ensures.cause.other ∙ c.in-Ok-answer.ensures.cause.1 ∙ c.in-Ok.ensures.causes.0,
-  rw (c.in-Ok-answer.ensures.cause.0 ∙ c.in-Ok.ensures.causes.1) at c.in-Err-flush.ensures.cause.failed,
-)
-
-pub returns-in-Err-flush-clause-stops : goal.returns-in-Err-flush-clause-stops
-returns-in-Err-flush-clause-stops g c = λ well. c.in-Err-flush.ensures.stops.stopped
-    (c.in-Ok-answer.ensures.stops (c.in-Ok.ensures.stops well))

@@ -10,11 +10,6 @@ loop-init g c = record {
   calls = λ well. well;
 }
 
-pub next_part-requires : goal.next_part-requires
-next_part-requires g c =
-    let given = c.loop.invariant.given c.requires.0 c.requires.1 c.requires.2 c.requires.3 in
-    (c.requires.0, c.requires.1, given.left, given.stands)
-
 pub loop-preserved : goal.loop-preserved
 loop-preserved g c = record {
   given = λ a x rest it.
@@ -65,23 +60,5 @@ returns-then-not-next_part-clause-ready g c = λ a x rest it.
     let given = c.loop.invariant.given a x rest it in
     (rw c.if-not-next_part.true at (c.next_part.ensures.gives a x given.left given.stands)).1
 
-pub returns-then-not-next_part-clause-cause : goal.returns-then-not-next_part-clause-cause
-returns-then-not-next_part-clause-cause g c = record {
-  later = omega (arith, c.loop.invariant.writes);
-  ok = c.loop.invariant.writes;
-  failed = tt;
-  other = c.loop.invariant.reads;
-}
-
 pub returns-then-not-next_part-clause-stops : goal.returns-then-not-next_part-clause-stops
 returns-then-not-next_part-clause-stops g c = record { well = c.loop.invariant.calls; stopped = tt }
-
-pub returns-in-Err-clause-cause : goal.returns-in-Err-clause-cause
-returns-in-Err-clause-cause g c =
-    rw (c.loop.invariant.writes, c.loop.invariant.reads) at c.in-Err.ensures.cause
-
-pub returns-in-Err-clause-stops : goal.returns-in-Err-clause-stops
-returns-in-Err-clause-stops g c = record {
-  well = tt;
-  stopped = λ well. c.in-Err.ensures.stops.stopped (c.loop.invariant.calls well);
-}

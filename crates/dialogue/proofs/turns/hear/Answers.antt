@@ -64,20 +64,8 @@ returns-in_default-clause-cause g c = (c.loop-rest.invariant.writes, c.loop-rest
 pub returns-in_default-clause-stops : goal.returns-in_default-clause-stops
 returns-in_default-clause-stops g c = c.loop-rest.invariant.calls
 
-pub returns-in-Err-clause-cause : goal.returns-in-Err-clause-cause
-returns-in-Err-clause-cause g c = (
-  rw c.loop-rest.invariant.writes at c.in-Err.ensures.cause.failed,
-  c.in-Err.ensures.cause.other ∙ c.loop-rest.invariant.reads,
-)
-
 pub returns-in-Err-clause-stops : goal.returns-in-Err-clause-stops
 returns-in-Err-clause-stops g c = λ well. c.in-Err.ensures.stops.stopped (c.loop-rest.invariant.calls well)
-
-pub returns-then-not-goes_on-clause-cause : goal.returns-then-not-goes_on-clause-cause
-returns-then-not-goes_on-clause-cause g c = (
-  c.in-Ok-give.ensures.cause.ok ∙ c.loop-rest.invariant.writes,
-  c.in-Ok-give.ensures.cause.other ∙ c.loop-rest.invariant.reads,
-)
 
 pub returns-then-not-goes_on-clause-stops : goal.returns-then-not-goes_on-clause-stops
 returns-then-not-goes_on-clause-stops g c =
@@ -94,13 +82,6 @@ take-requires-clause-stands g c =
     let asked = c.requires in
     let heard = c.loop-rest.invariant.heard asked.0 asked.1 asked.2 asked.3 in
     (asked.0, _, heard.stands, heard.goes_on)
-
-pub give-requires : goal.give-requires
-give-requires g c =
-    let asked = c.requires in
-    let heard = c.loop-rest.invariant.heard asked.0 asked.1 asked.2 asked.3 in
-    let takes = c.in-Ok.ensures.takes asked.0 _ heard.stands heard.goes_on in
-    (asked.0, _, _, takes.2.2)
 
 pub goes_on-requires : goal.goes_on-requires
 goes_on-requires g c =

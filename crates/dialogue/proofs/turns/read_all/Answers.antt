@@ -31,11 +31,6 @@ returns-then-count-eq0-clause-stands g c = λ a s.
     let was = c.loop.invariant.stands a s in
     (was.0, was.2, was.3, c.loop.invariant.empty)
 
-pub hear-requires : goal.hear-requires
-hear-requires g c =
-    let was = c.loop.invariant.stands c.requires.ready.0 c.requires.ready.1 in
-    (c.requires.ready.0, was.0, was.2, was.3)
-
 pub returns-in-Err-NoMemory-clause-reads : goal.returns-in-Err-NoMemory-clause-reads
 returns-in-Err-NoMemory-clause-reads g c = λ a s.
     no_memory _ (c.laws.ensures.steady a) _ _ _ (c.loop.invariant.moves a s) _ _
@@ -98,11 +93,6 @@ loop-preserved g c =
           (c.in-Ok-hear.ensures.stops (c.in-Ok.ensures.stops.well (c.loop.invariant.calls well)));
     }
 
-pub unreachable-requires : goal.unreachable-requires
-unreachable-requires g c =
-    let was = c.loop.invariant.stands c.requires.ready.0 c.requires.ready.1 in
-    omega (arith, was.1, c.laws.ensures.few c.requires.ready.0 c.loop.talker c.loop.meter was.0 was.2 was.3)
-
 pub returns-in-Err-NoMemory-clause-stands : goal.returns-in-Err-NoMemory-clause-stands
 returns-in-Err-NoMemory-clause-stands g c = λ a s.
     let was = c.loop.invariant.stands a s in
@@ -118,66 +108,15 @@ returns-in-Err-Unwritten-clause-stands g c = λ a s. inl refl
 pub returns-in-Err-clause-stands : goal.returns-in-Err-clause-stands
 returns-in-Err-clause-stands g c = λ a s. inl refl
 
-pub returns-in_default-clause-causes : goal.returns-in_default-clause-causes
-returns-in_default-clause-causes g c = (
-  rw c.loop.invariant.read_faults at c.in_default.ensures.cause.failed,
-  c.in_default.ensures.cause.other ∙ c.loop.invariant.write_faults,
-)
-
 pub returns-in_default-clause-stops : goal.returns-in_default-clause-stops
 returns-in_default-clause-stops g c = λ well. c.in_default.ensures.stops.stopped (c.loop.invariant.calls well)
-
-pub returns-then-count-eq0-clause-causes : goal.returns-then-count-eq0-clause-causes
-returns-then-count-eq0-clause-causes g c = (
-  c.in-Ok.ensures.cause.ok ∙ c.loop.invariant.read_faults,
-  c.in-Ok.ensures.cause.other ∙ c.loop.invariant.write_faults,
-)
 
 pub returns-then-count-eq0-clause-stops : goal.returns-then-count-eq0-clause-stops
 returns-then-count-eq0-clause-stops g c = λ well. c.in-Ok.ensures.stops.well (c.loop.invariant.calls well)
 
-pub returns-in-Err-NoMemory-clause-causes : goal.returns-in-Err-NoMemory-clause-causes
-returns-in-Err-NoMemory-clause-causes g c =
-    let it = rw c.in-Err-NoMemory.field-0-is at c.in-Err-NoMemory.ensures.cause in (
-      it.1 ∙ c.in-Ok.ensures.cause.ok ∙ c.loop.invariant.read_faults,
-      it.0 ∙ c.in-Ok.ensures.cause.other ∙ c.loop.invariant.write_faults,
-    )
-
-pub returns-in-Err-NoMemory-clause-stops : goal.returns-in-Err-NoMemory-clause-stops
-returns-in-Err-NoMemory-clause-stops g c = λ well.
-    (rw c.in-Err-NoMemory.field-0-is at c.in-Err-NoMemory.ensures.stops)
-    (c.in-Ok.ensures.stops.well (c.loop.invariant.calls well))
-
-pub returns-in-Err-Unwritten-clause-causes : goal.returns-in-Err-Unwritten-clause-causes
-returns-in-Err-Unwritten-clause-causes g c =
-    let it = rw c.in-Err-Unwritten.field-0-is at c.in-Err-Unwritten.ensures.cause in (
-      it.1 ∙ c.in-Ok.ensures.cause.ok ∙ c.loop.invariant.read_faults,
-      rw (c.in-Ok.ensures.cause.other ∙ c.loop.invariant.write_faults) at it.0,
-    )
-
-pub returns-in-Err-Unwritten-clause-stops : goal.returns-in-Err-Unwritten-clause-stops
-returns-in-Err-Unwritten-clause-stops g c = λ well.
-    (rw c.in-Err-Unwritten.field-0-is at c.in-Err-Unwritten.ensures.stops)
-    (c.in-Ok.ensures.stops.well (c.loop.invariant.calls well))
-
-pub returns-in-Err-clause-causes : goal.returns-in-Err-clause-causes
-returns-in-Err-clause-causes g c = (
-  c.in-Err.ensures.cause.other ∙ c.in-Ok-hear.ensures.cause.1 ∙ c.in-Ok.ensures.cause.ok ∙ c.loop.invariant.read_faults,
-  rw (c.in-Ok-hear.ensures.cause.0 ∙ c.in-Ok.ensures.cause.other ∙ c.loop.invariant.write_faults) at
-      c.in-Err.ensures.cause.failed,
-)
-
 pub returns-in-Err-clause-stops : goal.returns-in-Err-clause-stops
 returns-in-Err-clause-stops g c = λ well. c.in-Err.ensures.stops.stopped
     (c.in-Ok-hear.ensures.stops (c.in-Ok.ensures.stops.well (c.loop.invariant.calls well)))
-
-pub returns-then-not-more-clause-causes : goal.returns-then-not-more-clause-causes
-returns-then-not-more-clause-causes g c = (
-  c.in-Ok-flush.ensures.cause.other ∙ c.in-Ok-hear.ensures.cause.1 ∙ c.in-Ok.ensures.cause.ok
-      ∙ c.loop.invariant.read_faults,
-  c.in-Ok-flush.ensures.cause.ok ∙ c.in-Ok-hear.ensures.cause.0 ∙ c.in-Ok.ensures.cause.other
-      ∙ c.loop.invariant.write_faults,
-)
 
 pub returns-then-not-more-clause-stops : goal.returns-then-not-more-clause-stops
 returns-then-not-more-clause-stops g c = λ well. c.in-Ok-flush.ensures.stops.well

@@ -18,22 +18,6 @@ pub returns-in-resume-clause-some : goal.returns-in-resume-clause-some
 returns-in-resume-clause-some c =
     c.paused.ensures.some c.args.word.now (sym c.as_str.ensures.value ∙ c.in-resume.is)
 
-pub returns-in-report-clause-none : goal.returns-in-report-clause-none
-returns-in-report-clause-none c =
-    c.report.ensures.none c.args.word.now (sym c.as_str.ensures.value ∙ c.in-report.is)
-
-pub returns-in-bait-clause-none : goal.returns-in-bait-clause-none
-returns-in-bait-clause-none c =
-    c.bait.ensures.none c.args.word.now (sym c.as_str.ensures.value ∙ c.in-bait.is)
-
-pub returns-in-duel-clause-none : goal.returns-in-duel-clause-none
-returns-in-duel-clause-none c =
-    c.duel.ensures.none c.args.word.now (sym c.as_str.ensures.value ∙ c.in-duel.is)
-
-pub returns-in-resume-clause-none : goal.returns-in-resume-clause-none
-returns-in-resume-clause-none c =
-    c.paused.ensures.none c.args.word.now (sym c.as_str.ensures.value ∙ c.in-resume.is)
-
 pub returns-in_err-seed-in-trial-clause-none : goal.returns-in_err-seed-in-trial-clause-none
 returns-in_err-seed-in-trial-clause-none c = λ _ r asks.
     let it = asks_read _ _ r (codes "trial") (sym c.as_str.ensures.value ∙ c.in-trial.is) asks in

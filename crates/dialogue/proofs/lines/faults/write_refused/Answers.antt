@@ -1,29 +1,10 @@
-use Rattle.std.proofs.Common.{List, ℕ, [], ◌∷◌, ◌++◌, length, length-append, codes, ap, ◌∙◌, arith}
+use Rattle.std.proofs.Common.{List, ℕ, [], ◌∷◌, ◌++◌, length, codes, ap, ◌∙◌, arith}
 use Rattle.dover_model.specs.Lines.{with_numbers}
 use Rattle.dialogue.proofs.lines.Refusals.{refused_line}
 use Rattle.dialogue.proofs.lines.faults.write_refused.Goals as goal
 
 pub put_word-requires : goal.put_word-requires
 put_word-requires c = omega (arith, c.requires.short, ap (λ (bs : List ℕ). length bs) c.requires.empty)
-
-pub put_word-requires-2 : goal.put_word-requires-2
-put_word-requires-2 c = omega (
-  arith,
-  c.requires.short,
-  ap (λ (bs : List ℕ). length bs) c.requires.empty,
-  ap (λ (bs : List ℕ). length bs) c.put_word.ensures,
-  length-append c.args.word.now c.args.line.now,
-)
-
-pub put_with_wide-requires : goal.put_with_wide-requires
-put_with_wide-requires c = omega (
-  arith,
-  c.requires.short,
-  ap (λ (bs : List ℕ). length bs) c.requires.empty,
-  ap (λ (bs : List ℕ). length bs) c.put_word.ensures,
-  length-append c.args.word.now c.args.line.now,
-  ap (λ (bs : List ℕ). length bs) c.put_word-2.ensures,
-)
 
 pub returns-clause-text : goal.returns-clause-text
 returns-clause-text c =
@@ -32,14 +13,3 @@ returns-clause-text c =
     ∙ ap (λ bs. with_numbers (codes "refused") numbers ++ bs) (c.put_word-2.ensures
     ∙ ap (λ bs. 32 ∷ bs) (c.put_word.ensures ∙ ap (λ bs. c.args.word.now ++ bs) c.requires.empty))
     ∙ refused_line (codes "refused") numbers [] c.args.word.now (10 ∷ [])
-
-pub returns-clause-fits : goal.returns-clause-fits
-returns-clause-fits c = omega (
-  arith,
-  c.requires.short,
-  ap (λ (bs : List ℕ). length bs) c.requires.empty,
-  ap (λ (bs : List ℕ). length bs) c.put_word.ensures,
-  length-append c.args.word.now c.args.line.now,
-  ap (λ (bs : List ℕ). length bs) c.put_word-2.ensures,
-  c.put_with_wide.ensures.size,
-)

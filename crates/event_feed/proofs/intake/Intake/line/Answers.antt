@@ -1,6 +1,6 @@
 -- What is kept of the numbers changes nothing of what stands for the lines.
-use Rattle.std.proofs.Common.{sym, subst, arith, ap, ◌∙◌}
-use Rattle.event_feed.specs.Kept.{Kept, StandsFor, has_ended, fault_of}
+use Rattle.std.proofs.Common.{arith, ap, ◌∙◌}
+use Rattle.event_feed.specs.Kept.{Kept, has_ended, fault_of}
 use Rattle.event_feed.proofs.intake.Intake.line.Goals as goal
 
 pub take-requires-clause-unended : goal.take-requires-clause-unended
@@ -9,14 +9,6 @@ take-requires-clause-unended c = ap has_ended c.self.view_is ∙ c.requires
 pub returns-in-Ok-clause-again : goal.returns-in-Ok-clause-again
 returns-in-Ok-clause-again c = λ fault is.
     let it = c.take.ensures.again fault (ap fault_of c.self.view_is ∙ is) in (it.0, it.1 ∙ c.self.view_is)
-
-pub returns-in-Ok-clause-stands : goal.returns-in-Ok-clause-stands
-returns-in-Ok-clause-stands c ls it = c.take.ensures.stands ls c.args.line.now c.in-Ok.ensures.ok
-    (subst (λ k. StandsFor k ls) (sym c.self.view_is) it)
-
-pub returns-in-Ok-clause-answer : goal.returns-in-Ok-clause-answer
-returns-in-Ok-clause-answer c ls it = c.take.ensures.answer ls c.args.line.now c.in-Ok.ensures.ok
-    (subst (λ k. StandsFor k ls) (sym c.self.view_is) it)
 
 pub returns-in-Err-clause-stands : goal.returns-in-Err-clause-stands
 returns-in-Err-clause-stands c ls it = c.take-in-Err.ensures.stands ls c.args.line.now c.in-Err.ensures.err it

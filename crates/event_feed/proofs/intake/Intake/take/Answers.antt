@@ -1,15 +1,12 @@
 -- A fault is kept and answered.
-use Rattle.std.proofs.Common.{◌≤◌, inr, Ok, ◌≡◌, ℕ, suc, ◌+◌, List, sym, ap, ◌∙◌, subst, refl, arith, Err, None, Some}
-use Rattle.std.proofs.Common.{rules, option_map}
-use Rattle.dover_model.specs.Common.{most_lines, Open, account_of_lines, read_line, feed_line}
-use Rattle.dover_model.specs.declared.events.Version.TheVariants.{Three}
+use Rattle.std.proofs.Common.{inr, ◌≡◌, ℕ, suc, ◌+◌, List, sym, ap, ◌∙◌, subst, refl, arith, Err, None, Some, rules}
+use Rattle.std.proofs.Common.{option_map}
+use Rattle.dover_model.specs.Common.{Open, account_of_lines, read_line, feed_line}
 use Rattle.dover_model.specs.Feed as model
-use Rattle.dover_model.proofs.lists.Members.{some_same}
-use Rattle.event_feed.specs.declared.fed.Fed.TheVariants as feds
 use Rattle.event_feed.specs.Kept.{Kept, KeepsAccount, IsCounted, cause_of_fault, StandsFor, standing_of, has_ended}
 use Rattle.event_feed.specs.Kept.{fault_of}
-use Rattle.event_feed.specs.Answers.{IsFed, EndsFeed, counted}
-use Rattle.event_feed.proofs.Taking.{next_account, fault_stays, keeps_over, goes_on, is_going, keeps_fault, keeps_fed}
+use Rattle.event_feed.specs.Answers.{IsFed, counted}
+use Rattle.event_feed.proofs.Taking.{next_account, fault_stays, goes_on, is_going, keeps_fault, keeps_fed}
 use Rattle.event_feed.proofs.Taking.{answers_fault}
 use Rattle.line_text.specs.feeds.Form.{form_of}
 use Rattle.event_feed.specs.declared.intake.Standing.TheVariants as standings
@@ -80,43 +77,6 @@ returns-in-Ok-clause-going c not_over =
     is_going (c.self.inside.lines + 1) c.read.new.session c.self.inside.standing c.in-Ok.ensures.declared
     (goes_on c.self.inside.standing (ap has_ended c.self.view_is ∙ c.requires.unended) c.in_default.not-Faulty)
 
-pub returns-in-Ok-Over : goal.returns-in-Ok-Over
-returns-in-Ok-Over c = record {
-  stands = λ ls text is it. keeps_over ls text c.read.new.session (c.self.inside.lines + 1) (on ls it).opened
-      (on ls it).counts (taken ls text is it);
-  answer = λ ls text is it. (
-    (on ls it).opened,
-    subst (λ a. EndsFeed (counted (account_of_lines ls)) a) (sym (next_account ls text (on ls it).opened))
-        (taken ls text is it).gives,
-  );
-  going = λ other. absurd (other refl);
-  ended = (λ e. refl, λ e. refl);
-  fault = refl;
-  counted = omega (arith, ap (λ (k : Kept). k.lines) c.self.view_is);
-  again = λ fault is. absurd (let e : None ≡ Some fault =
-      ap (λ s. fault_of (record { lines = c.self.inside.lines; session = c.self.inside.session; standing = s }))
-      (sym still_open)
-      ∙ ap fault_of c.self.view_is ∙ is in cc);
-} where
-  still_open : c.self.inside.standing ≡ standings.Open
-  still_open = goes_on c.self.inside.standing (ap has_ended c.self.view_is ∙ c.requires.unended) c.in_default.not-Faulty
-
-  on : (ls : List (List ℕ)) → StandsFor c.args.self.now ls → GoesOn (record {
-    lines = c.self.inside.lines;
-    session = c.self.inside.session;
-    standing = c.self.inside.standing;
-  }) ls
-  on ls it = going_on _ _ c.self.view_is still_open ls it
-
-  taken : (ls : List (List ℕ)) (text : List ℕ) → feed_line text ≡ option_map form_of c.args.line
-      → StandsFor c.args.self.now ls
-      → IsTaken c.read.new.session (feed_line text) (counted (account_of_lines ls))
-      (read_line (counted (account_of_lines ls)) text) (Ok feds.Over)
-  taken ls text is it = subst (λ fed. IsTaken c.read.new.session (feed_line text) (counted (account_of_lines ls))
-      (read_line (counted (account_of_lines ls)) text) (Ok fed)) c.in-Ok-Over.field-0-is
-      (c.in-Ok-Over.ensures.taken (counted (account_of_lines ls)) text is (on ls it).opened
-      (sym (on ls it).counts) (on ls it).before.by_account.session)
-
 pub returns-in-Ok-clause-answer : goal.returns-in-Ok-clause-answer
 returns-in-Ok-clause-answer c ls text is it =
     let on = going_on _ _ c.self.view_is (goes_on c.self.inside.standing
@@ -154,29 +114,7 @@ invariant_of-self-in-Ok c = subst (λ s. IsCounted s (c.self.inside.lines + 1))
     (sym (goes_on c.self.inside.standing (ap has_ended c.self.view_is ∙ c.requires.unended) c.in_default.not-Faulty))
     c.in-Ok.ensures.few
 
-pub invariant_of-self-in-Err : goal.invariant_of-self-in-Err
-invariant_of-self-in-Err c =
-    let few : c.self.inside.lines ≤ most_lines Three = subst (λ s. IsCounted s c.self.inside.lines)
-    (goes_on c.self.inside.standing (ap has_ended c.self.view_is ∙ c.requires.unended) c.in_default.not-Faulty)
-    c.self.invariant in
-    omega (arith, few)
-
 pub returns-in-Ok-clause-fault : goal.returns-in-Ok-clause-fault
 returns-in-Ok-clause-fault c =
     ap (λ s. fault_of (record { lines = c.self.inside.lines + 1; session = c.read.new.session; standing = s }))
     (goes_on c.self.inside.standing (ap has_ended c.self.view_is ∙ c.requires.unended) c.in_default.not-Faulty)
-
-pub returns-in-Faulty-clause-again : goal.returns-in-Faulty-clause-again
-returns-in-Faulty-clause-again c fault is = (
-  ap Err (some_same _ _
-      (ap (λ s. fault_of (record { lines = c.self.inside.lines; session = c.self.inside.session; standing = s }))
-      (sym c.in-Faulty.is) ∙ ap fault_of c.self.view_is ∙ is)),
-  refl,
-)
-
-pub overflow_add-self : goal.overflow_add-self
-overflow_add-self c =
-    let few : c.self.inside.lines ≤ most_lines Three = subst (λ s. IsCounted s c.self.inside.lines)
-    (goes_on c.self.inside.standing (ap has_ended c.self.view_is ∙ c.requires.unended) c.in_default.not-Faulty)
-    c.self.invariant in
-    omega (arith, few)

@@ -1,7 +1,6 @@
 -- A job line by what the test of the job answers.
 use Rattle.std.proofs.Common.{◌∙◌, sym, ap, subst, arith, Ok}
 use Rattle.dover_model.specs.Common.{JobFacts, job_of_numbers, refusal_of, admitted_jobs, JobLine}
-use Rattle.admission.specs.Answers as answers
 use Rattle.event_feed.specs.declared.fed.Fed.TheVariants as fed
 use Rattle.event_feed.specs.declared.kept_session.KeptSession.{KeptSession}
 use Rattle.event_feed.specs.Reading.{Takes}
@@ -18,17 +17,3 @@ returns-in-Ok c lines S mark it =
     (ap (λ rules. refusal_of rules (admitted_jobs S.items) j) it.rules
     ∙ c.in-Ok.ensures.refusal (admitted_jobs S.items) it.jobs)
     c.count.ensures)
-
-pub returns-in-Err : goal.returns-in-Err
-returns-in-Err c lines S mark it =
-    let j : JobFacts = job_of_numbers c.args.release c.args.work c.args.deadline c.args.value in
-    c.refuse.ensures lines S mark (record {
-      kept_of = it;
-      numerals = c.requires;
-      no_fall = omega (arith, it.marked);
-      refusal = ap (λ rules. refusal_of rules (admitted_jobs S.items) j) it.rules
-          ∙ c.in-Err.ensures.refusal (admitted_jobs S.items) it.jobs;
-      other = subst (λ k. answers.NamesOther k (admitted_jobs S.items) j c.in-Err.refused)
-          (sym (ap (λ rules. rules.ratio) it.rules))
-          (c.in-Err.ensures.other (admitted_jobs S.items) it.jobs);
-    })

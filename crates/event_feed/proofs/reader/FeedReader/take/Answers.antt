@@ -1,6 +1,6 @@
-use Rattle.std.proofs.Common.{◌≡◌, ◌<◌, ◌++◌, [], ◌∙◌, take, drop, refl, sym, ap, subst, arith, rules, tests}
-use Rattle.std.proofs.Common.{false, true}
-use Rattle.std.proofs.lemmas.List.{take_rest, nil_from_length, length-take}
+use Rattle.std.proofs.Common.{◌≡◌, ◌<◌, ◌++◌, [], ◌∙◌, take, drop, refl, sym, ap, subst, arith, rules, tests, false}
+use Rattle.std.proofs.Common.{true}
+use Rattle.std.proofs.lemmas.List.{take_rest, nil_from_length}
 use Rattle.dover_model.specs.Feed.{account}
 use Rattle.event_feed.specs.Answers.{admitted_in}
 use Rattle.event_feed.proofs.Admitting.{admitted_front}
@@ -53,19 +53,3 @@ returns-clause-stands c = λ x it on.
     let r = c.loop-rest.invariant x it on in
     let none : c.loop-rest.rest.now ≡ [] = nil_from_length _ (search (rules, tests)) in
     record { read = r.read; rest = c.loop-rest.rest.now; front = sym r.cut; reads = r.reads; all = λ going. none }
-
-pub take_front-requires-clause-reads : goal.take_front-requires-clause-reads
-take_front-requires-clause-reads c =
-    let r = c.loop-rest.invariant c.requires.0 c.requires.1 c.requires.2 in (r.read, r.reads, r.on)
-
-pub take_front-requires-clause-whole : goal.take_front-requires-clause-whole
-take_front-requires-clause-whole c more = c.front-count.ensures.whole
-    (omega (arith, more, c.front-count.ensures.within, length-take c.front-count.result c.loop-rest.rest.now))
-
-pub take_front-requires-clause-some : goal.take_front-requires-clause-some
-take_front-requires-clause-some c = omega (
-  arith,
-  c.front-count.ensures.some,
-  c.front-count.ensures.within,
-  length-take c.front-count.result c.loop-rest.rest.now,
-)

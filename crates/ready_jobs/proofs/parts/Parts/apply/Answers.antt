@@ -1,9 +1,8 @@
 use Rattle.std.proofs.Common.{◌≡◌, ◌+◌, ◌*◌, ◌≤◌, refl, subst}
 use Rattle.dover_model.specs.declared.events.Event.TheVariants.{Run}
-use Rattle.dover_model.specs.Common.{Prints, view, cost_of}
+use Rattle.dover_model.specs.Common.{Prints, cost_of}
 use Rattle.dover_model.specs.Step.{pressed_after}
 use Rattle.waiting_pool.specs.Pools.{orders_of}
-use Rattle.ready_jobs.specs.Deeds.{Finds}
 use Rattle.ready_jobs.specs.Parts.{ready_of, state_of}
 use Rattle.ready_jobs.specs.Spending.{wait_again}
 use Rattle.ready_jobs.specs.declared.actions.Action.TheVariants as actions
@@ -100,18 +99,6 @@ returns-in-Take-clause-once g c e d does fits =
 pub returns-in-Abandon-clause-once : goal.returns-in-Abandon-clause-once
 returns-in-Abandon-clause-once g c e d does fits =
     one_at_most _ _ _ _ _ (c.abandon_next.ensures.once d fits)
-
-pub resume_next-requires-clause-finds : goal.resume_next-requires-clause-finds
-resume_next-requires-clause-finds g c =
-    let p = c.args.self.now in subst (Finds (view p.version (state_of p))) c.in-Resume.is c.requires.does.1.finds
-
-pub start_next-requires-clause-finds : goal.start_next-requires-clause-finds
-start_next-requires-clause-finds g c =
-    let p = c.args.self.now in subst (Finds (view p.version (state_of p))) c.in-Start.is c.requires.does.1.finds
-
-pub begin_next-requires-clause-finds : goal.begin_next-requires-clause-finds
-begin_next-requires-clause-finds g c =
-    let p = c.args.self.now in subst (Finds (view p.version (state_of p))) c.in-Begin.is c.requires.does.1.finds
 
 pub resume_next-requires-clause-once : goal.resume_next-requires-clause-once
 resume_next-requires-clause-once g c = c.requires.once

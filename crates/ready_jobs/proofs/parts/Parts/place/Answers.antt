@@ -56,11 +56,5 @@ returns-in_default-clause-count g c d large = no_cost _ _
 pub returns-in_default-clause-none : goal.returns-in_default-clause-none
 returns-in_default-clause-none g c = sym c.fresh.ensures.is ∙ c.in_default.is
 
-pub returns-in-Wait-clause-kept : goal.returns-in-Wait-clause-kept
-returns-in-Wait-clause-kept g c =
-    let q = c.stay.new.self in
-    c.stay.ensures.kept ∙ ap (λ o. record c.args.self.now { fresh = o; waiting = q.waiting })
-    (sym (ap (λ (q : Parted). q.fresh) c.stay.ensures.kept))
-
 pub returns-in-Wait-clause-none : goal.returns-in-Wait-clause-none
 returns-in-Wait-clause-none g c = ap (λ (q : Parted). q.fresh) c.stay.ensures.kept

@@ -4,7 +4,7 @@ use Rattle.std.proofs.lemmas.List.{reverse-append, length-reverse}
 use Rattle.std.proofs.lemmas.List.Sums.{sum_by-cons}
 use Rattle.dover_model.specs.declared.events.Task.{Task}
 use Rattle.dover_model.specs.declared.events.Entry.{Entry}
-use Rattle.dover_model.specs.declared.events.Role.TheVariants.{Held, Running}
+use Rattle.dover_model.specs.declared.events.Role.TheVariants.{Held}
 use Rattle.dover_model.specs.Common.{entry_of, value_sum, with_role, IsMember}
 use Rattle.dover_model.proofs.lists.Members.{on_map, sum_map}
 use Rattle.held_stack.specs.Stack.{IsDueBeforeTop}
@@ -73,16 +73,3 @@ invariant_of-self c =
     (subst (λ t. AreParts (record p { running = Some t; fresh = None; held = with_role c.args.r.now Held ∷ p.held })
     c.hold.new.self inside.pool
     (vec_capacity c.push.new.held)) (sym c.in_role-2.ensures) kept)
-
-pub returns : goal.returns
-returns c =
-    let inside = c.self.inside in
-    let held_is = ap reverse c.push.ensures.items ∙ reverse-append inside.held.items (c.in_role.result ∷ [])
-    ∙ ap (λ t. t ∷ reverse inside.held.items) c.in_role.ensures in
-    ap (λ l. record (parted_of inside) { running = Some c.in_role-2.result; fresh = None; held = l }) held_is
-    ∙ ap (λ t. record (parted_of inside)
-    { running = Some t; fresh = None; held = with_role c.args.r.now Held ∷ reverse inside.held.items })
-    c.in_role-2.ensures
-    ∙ ap (λ (q : Parted). record q
-    { running = Some (with_role c.args.f.now Running); fresh = None; held = with_role c.args.r.now Held ∷ q.held })
-    c.self.view_is

@@ -1,6 +1,5 @@
 use Rattle.std.proofs.Common.{reverse, sym, ap, ◌∙◌, subst, arith, map, vec_capacity}
 use Rattle.std.proofs.lemmas.List.{length-reverse}
-use Rattle.std.proofs.Math.Nat.{max-eq_right}
 use Rattle.dover_model.specs.Entries.{entry_of}
 use Rattle.held_stack.specs.Kept.{Lasting, AreRoomsOf}
 use Rattle.held_stack.proofs.Holding.{spare_kept}
@@ -119,10 +118,6 @@ invariant_of-self c =
     (vec_capacity c.reserve.new.self) inside.rooms inside.pool kept.held (omega arith) kept.most kept.pool_room
     kept.held_room (omega (arith, kept.stack_room, c.reserve.ensures.capacity)))
 
-pub returns-clause-ok : goal.returns-clause-ok
-returns-clause-ok c = sym (max-eq_right {n = c.args.self.now.room} {m = c.args.room}
-    (omega (arith, c.if-room-self.false, ap (λ (q : Parted). q.room) c.self.view_is)))
-
 pub returns-clause-same : goal.returns-clause-same
 returns-clause-same c = c.reserve-3.ensures.same ∙ ap (λ (q : Parted). q.waiting) c.self.view_is
 
@@ -134,37 +129,6 @@ returns-in_err-reserve-2-clause-same c = ap (λ (q : Parted). q.waiting) c.self.
 
 pub returns-in_err-reserve-clause-same : goal.returns-in_err-reserve-clause-same
 returns-in_err-reserve-clause-same c = ap (λ (q : Parted). q.waiting) c.self.view_is
-
-pub returns-clause-kept : goal.returns-clause-kept
-returns-clause-kept c =
-    let p = parted_of c.self.inside in
-    let pool = c.reserve-3.new.self in
-    let held = reverse c.reserve.new.self.items in
-    ap (λ v. record p { version = v; held = held; waiting = pool.tasks; room = c.args.room })
-    (ap (λ (q : Pooled). q.version) c.reserve-3.ensures.kept)
-    ∙ ap (λ h. record p { held = reverse h; waiting = pool.tasks; room = c.args.room }) c.reserve.ensures.items
-    ∙ ap (λ (q : Parted). record q { waiting = pool.tasks; room = c.args.room }) c.self.view_is
-
-pub returns-in_err-reserve-3-clause-kept : goal.returns-in_err-reserve-3-clause-kept
-returns-in_err-reserve-3-clause-kept c =
-    let p = parted_of c.self.inside in
-    let pool = c.reserve-3.new.self in
-    ap (λ v. record p { version = v; held = reverse c.reserve.new.self.items; waiting = pool.tasks })
-    (ap (λ (q : Pooled). q.version) c.reserve-3.ensures.kept)
-    ∙ ap (λ h. record p { held = reverse h; waiting = pool.tasks }) c.reserve.ensures.items
-    ∙ ap (λ (q : Parted). record q { waiting = pool.tasks; room = c.self.inside.room }) c.self.view_is
-
-pub returns-in_err-reserve-2-clause-kept : goal.returns-in_err-reserve-2-clause-kept
-returns-in_err-reserve-2-clause-kept c =
-    let p = parted_of c.self.inside in
-    ap (λ h. record p { held = reverse h }) c.reserve.ensures.items
-    ∙ ap (λ (q : Parted). record q { waiting = p.waiting; room = p.room }) c.self.view_is
-
-pub returns-in_err-reserve-clause-kept : goal.returns-in_err-reserve-clause-kept
-returns-in_err-reserve-clause-kept c =
-    let p = parted_of c.self.inside in
-    ap (λ h. record p { held = reverse h }) c.reserve.ensures.items
-    ∙ ap (λ (q : Parted). record q { waiting = p.waiting; room = p.room }) c.self.view_is
 
 pub returns-in_err-reserve-clause-err : goal.returns-in_err-reserve-clause-err
 returns-in_err-reserve-clause-err c = err_any c.from_residual.result (ap (λ (q : Parted). q.room) c.self.view_is)

@@ -9,20 +9,6 @@ use Rattle.ready_jobs.proofs.Courses.{no_items}
 use Rattle.ready_jobs.proofs.Keeping.{resumed_of, resumed_one, resumed_none, resumed_kept}
 use Rattle.ready_jobs.proofs.parts.Parts.resume.Goals as goal
 
-pub release_one-requires : goal.release_one-requires
-release_one-requires c =
-    let inside = c.self.inside in
-    let rest = c.pop.new.held.items in
-    let h = c.in-Some.p in
-    let items : inside.held.items ≡ rest ++ h ∷ [] = c.pop.ensures.items
-    ∙ ap (λ o. rest ++ option_to_list o) c.in-Some.is in
-    let held_is = ap reverse items ∙ reverse-append rest (h ∷ []) in (
-      entry_of h,
-      map entry_of (reverse rest),
-      subst (λ l. AreRoomsOf inside.rooms (map entry_of l)) held_is c.self.invariant.held,
-      sym c.value.ensures.is,
-    )
-
 pub invariant_of-self : goal.invariant_of-self
 invariant_of-self c =
     let inside = c.self.inside in

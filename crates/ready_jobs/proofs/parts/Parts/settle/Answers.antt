@@ -1,5 +1,4 @@
-use Rattle.std.proofs.Common.{◌+◌, ◌-◌, ◌*◌, ◌≤◌, length, sym, ap, ◌∙◌, subst}
-use Rattle.waiting_pool.specs.Pools.{orders_of}
+use Rattle.std.proofs.Common.{ap, ◌∙◌}
 use Rattle.ready_jobs.specs.Parts.{Parted}
 use Rattle.ready_jobs.proofs.Silences.{from_on, part_after}
 use Rattle.ready_jobs.proofs.parts.Parts.settle.Goals as goal
@@ -13,23 +12,8 @@ pub tick_to-requires-clause-part : goal.tick_to-requires-clause-part
 tick_to-requires-clause-part g c = part_after _ c.args.mark _ _
     (ap (λ (q : Parted). q.version) c.place.ensures.kept) (c.place.ensures.settles c.args.mark) c.requires.part
 
-pub returns-in-None-clause-count : goal.returns-in-None-clause-count
-returns-in-None-clause-count g c d large =
-    let p = c.args.self.now in
-    subst (λ ts. c.place.new.comparisons ≤ c.args.comparisons.now
-    + orders_of p.version * d * (length ts - length p.waiting))
-    (sym (ap (λ (q : Parted). q.waiting) c.tick_to.ensures.kept)) (c.place.ensures.count d large)
-
 pub returns-in-None-clause-fewer : goal.returns-in-None-clause-fewer
 returns-in-None-clause-fewer g c = c.tick_to.ensures.fewer ∙ c.place.ensures.fewer
-
-pub tick_to-requires-clause-low : goal.tick_to-requires-clause-low
-tick_to-requires-clause-low g c =
-    subst (λ n. n ≤ c.args.mark) (sym (ap (λ (q : Parted). q.clock) c.place.ensures.kept)) c.requires.low
-
-pub returns-in-Some-clause-low : goal.returns-in-Some-clause-low
-returns-in-Some-clause-low g c =
-    subst (λ n. n ≤ c.args.mark) (sym (ap (λ (q : Parted). q.clock) c.place.ensures.kept)) c.requires.low
 
 pub returns-in-Some-clause-settles : goal.returns-in-Some-clause-settles
 returns-in-Some-clause-settles g c = c.place.ensures.settles c.args.mark

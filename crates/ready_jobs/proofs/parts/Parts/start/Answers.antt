@@ -1,9 +1,8 @@
-use Rattle.std.proofs.Common.{◌+◌, ◌*◌, ◌≤◌, ◌^◌, ◌<◌, ◌∷◌, Some, length, sym, ap, ◌∙◌, subst, vec_capacity}
+use Rattle.std.proofs.Common.{Some, sym, ap, ◌∙◌, subst, vec_capacity}
 use Rattle.dover_model.specs.declared.events.Role.TheVariants.{Running}
-use Rattle.dover_model.specs.Common.{first, with_role}
-use Rattle.waiting_pool.specs.Reordered.{IsReordered}
-use Rattle.waiting_pool.specs.Pools.{Pooled, orders_of}
-use Rattle.ready_jobs.specs.Parts.{Parted, AreParts, AreSound, first_by}
+use Rattle.dover_model.specs.Common.{with_role}
+use Rattle.waiting_pool.specs.Pools.{Pooled}
+use Rattle.ready_jobs.specs.Parts.{Parted, AreParts, AreSound}
 use Rattle.ready_jobs.specs.Kept.{parted_of}
 use Rattle.ready_jobs.proofs.Keeping.{started_kept, same_kept}
 use Rattle.ready_jobs.proofs.parts.Parts.start.Goals as goal
@@ -35,27 +34,3 @@ invariant_of-self-in_default g c =
     (same_kept (parted_of inside) inside.rooms inside.pool (vec_capacity inside.held) c.self.invariant after
     (c.take_waiting.ensures.none c.in_default.is)
     (ap (λ (q : Pooled). q.room) c.take_waiting.ensures.kept))
-
-pub returns-in-Some-clause-rest : goal.returns-in-Some-clause-rest
-returns-in-Some-clause-rest g c o is =
-    let firsts = ap (λ (q : Parted). first (first_by q) q.waiting) c.self.view_is in
-    subst (λ (q : Parted). IsReordered q.waiting (o ∷ c.take_waiting.new.self.tasks)) c.self.view_is
-    (c.take_waiting.ensures.rest o (c.take_waiting.ensures.was ∙ firsts ∙ is))
-
-pub returns-in-Some-clause-count : goal.returns-in-Some-clause-count
-returns-in-Some-clause-count g c d fits =
-    subst (λ (q : Parted). c.take_waiting.new.comparisons
-    ≤ c.args.comparisons.now + 3 * orders_of q.version * d) c.self.view_is
-    (c.take_waiting.ensures.count d (subst (λ (q : Parted). length q.waiting + 1 < 2 ^ d) (sym c.self.view_is) fits))
-
-pub returns-in_default-clause-rest : goal.returns-in_default-clause-rest
-returns-in_default-clause-rest g c o is =
-    let firsts = ap (λ (q : Parted). first (first_by q) q.waiting) c.self.view_is in
-    subst (λ (q : Parted). IsReordered q.waiting (o ∷ c.take_waiting.new.self.tasks)) c.self.view_is
-    (c.take_waiting.ensures.rest o (c.take_waiting.ensures.was ∙ firsts ∙ is))
-
-pub returns-in_default-clause-count : goal.returns-in_default-clause-count
-returns-in_default-clause-count g c d fits =
-    subst (λ (q : Parted). c.take_waiting.new.comparisons
-    ≤ c.args.comparisons.now + 3 * orders_of q.version * d) c.self.view_is
-    (c.take_waiting.ensures.count d (subst (λ (q : Parted). length q.waiting + 1 < 2 ^ d) (sym c.self.view_is) fits))

@@ -1,10 +1,7 @@
-use Rattle.std.proofs.Common.{◌+◌, ◌*◌, ◌≤◌, ◌^◌, ◌<◌, ◌∷◌, None, length, sym, ap, arith, ◌∙◌, subst, vec_capacity}
-use Rattle.std.proofs.Common.{option_to_list}
+use Rattle.std.proofs.Common.{◌<◌, ◌∷◌, None, length, sym, ap, arith, ◌∙◌, subst, vec_capacity, option_to_list}
 use Rattle.dover_model.specs.declared.events.Task.{Task}
-use Rattle.dover_model.specs.declared.events.Role.TheVariants.{Waiting}
-use Rattle.dover_model.specs.Step.{with_role}
 use Rattle.waiting_pool.specs.Reordered.{IsReordered}
-use Rattle.waiting_pool.specs.Pools.{Pooled, orders_of}
+use Rattle.waiting_pool.specs.Pools.{Pooled}
 use Rattle.ready_jobs.specs.Parts.{Parted, AreParts}
 use Rattle.ready_jobs.specs.Kept.{parted_of}
 use Rattle.waiting_pool.specs.Short.{no_number}
@@ -40,15 +37,3 @@ add-requires-clause-room g c =
       ready_count (parted_of c.self.inside),
       ap (λ o. length (option_to_list o)) is,
     )
-
-pub returns-clause-waits : goal.returns-clause-waits
-returns-clause-waits g c =
-    let after = c.add.new.self.tasks in
-    subst (λ ts. IsReordered (with_role c.args.f.now Waiting ∷ ts) after)
-    (ap (λ (q : Parted). q.waiting) c.self.view_is)
-    (subst (λ t. IsReordered (t ∷ c.self.inside.pool.tasks) after) c.in_role.ensures c.add.ensures.more)
-
-pub returns-clause-count : goal.returns-clause-count
-returns-clause-count g c d fits =
-    subst (λ (q : Parted). c.add.new.comparisons ≤ c.args.comparisons.now + orders_of q.version * d) c.self.view_is
-    (c.add.ensures.count d (subst (λ (q : Parted). length q.waiting + 1 < 2 ^ d) (sym c.self.view_is) fits))

@@ -41,11 +41,6 @@ returns-in_default-first_late-clause-leaves g c at = absurd
     (some_late c.args.self.now c.laws.ensures.roles c.requires.once c.args.stops c.args.starts c.requires.next
     (sym c.first_late.ensures.seen ∙ ap seen c.in_default-first_late.is))
 
-pub take-requires-clause-late : goal.take-requires-clause-late
-take-requires-clause-late g c =
-    c.first_late.ensures.is c.task-x.result
-    (ap seen c.in-Some-first_late.is ∙ ap Some (sym c.task-x.ensures))
-
 pub take-requires-clause-running : goal.take-requires-clause-running
 take-requires-clause-running g c = sym c.running.ensures.is ∙ c.in-Some.is
 

@@ -17,15 +17,6 @@ tick-requires-clause-had c =
     known_fits _ c.args.self.now c.laws.ensures.roles c.requires.part c.silent_ticks-count.result
     (omega (arith, c.silent_ticks-count.ensures.most, c.requires.known))
 
-pub tick-requires-clause-known : goal.tick-requires-clause-known
-tick-requires-clause-known c = omega (
-  arith,
-  c.silent_ticks-count.ensures.most,
-  c.clock-clock.ensures,
-  c.requires.low,
-  c.requires.known,
-)
-
 pub open_step-requires : goal.open_step-requires
 open_step-requires c =
     let p = c.args.self.now in
@@ -69,15 +60,6 @@ returns-clause-stops c silent =
     open_step (record { ratio = c.args.k.now; version = q.version; finishes = [] }) (state_of q)) c.tick.ensures)
     ∙ sym c.open_step.ensures.is) silent in
     (stops.0, omega (arith, stops.1, ap (λ (q : Parted). q.clock) c.tick.ensures))
-
-pub returns-clause-low : goal.returns-clause-low
-returns-clause-low c = omega (
-  arith,
-  c.silent_ticks-count.ensures.most,
-  c.clock-clock.ensures,
-  c.requires.low,
-  ap (λ (q : Parted). q.clock) c.tick.ensures,
-)
 
 pub returns-clause-fewer : goal.returns-clause-fewer
 returns-clause-fewer c =

@@ -1,5 +1,4 @@
-use Rattle.std.proofs.Common.{refl, sym, ap, ◌∙◌}
-use Rattle.ready_jobs.specs.Deeds.{step_at}
+use Rattle.std.proofs.Common.{refl}
 use Rattle.ready_jobs.proofs.Silences.{known_sound, from_none, stale_tick}
 use Rattle.ready_jobs.proofs.parts.Parts.tick_to.Goals as goal
 
@@ -19,10 +18,6 @@ returns-in_default c =
       kept = refl;
       fewer = refl;
     }
-
-pub tick_on-requires-in-Tick-clause-ticks : goal.tick_on-requires-in-Tick-clause-ticks
-tick_on-requires-in-Tick-clause-ticks c free =
-    sym c.open_step-action.ensures.is ∙ ap (step_at c.args.self.now.clock) c.in-Tick.is
 
 pub returns-in-Tick-clause-settles : goal.returns-in-Tick-clause-settles
 returns-in-Tick-clause-settles c = c.tick_on-in-Tick.ensures.settles

@@ -1,5 +1,4 @@
-use Rattle.std.proofs.Common.{ap, ◌∙◌, sym, subst, true}
-use Rattle.dover_model.specs.Common.{by_density}
+use Rattle.std.proofs.Common.{ap, ◌∙◌, sym, subst}
 use Rattle.ready_jobs.specs.Course.{Course, IsCourse, course_of}
 use Rattle.ready_jobs.proofs.Courses.{declared_course, none_ready}
 use Rattle.ready_jobs.proofs.Silences.{none_waits}
@@ -9,10 +8,6 @@ pub declare-requires-clause-none : goal.declare-requires-clause-none
 declare-requires-clause-none c =
     let i = c.self.inside in
     none_waits i.parts (none_ready _ c.self.invariant (ap (λ (d : Course). d.jobs) c.self.view_is ∙ c.requires.none))
-
-pub declare-requires-clause-dense : goal.declare-requires-clause-dense
-declare-requires-clause-dense c =
-    ap (λ (d : Course). by_density d.rules.version true) c.self.view_is ∙ c.requires.dense
 
 pub invariant_of-self : goal.invariant_of-self
 invariant_of-self c =

@@ -1,18 +1,10 @@
-use Rattle.std.proofs.Common.{sym, ap, ◌∙◌, subst, arith}
+use Rattle.std.proofs.Common.{sym, ap, ◌∙◌, subst}
 use Rattle.dover_model.specs.Common.{event_of, Prints}
 use Rattle.ready_jobs.specs.Course.{Course, Follows, Reached}
 use Rattle.ready_jobs.specs.Deeds.{step_at}
 use Rattle.ready_jobs.proofs.Courses.{reached_next, reached_last, due_now}
 use Rattle.ready_jobs.proofs.Doing.{prints_event}
 use Rattle.ready_jobs.proofs.ready.Ready.due_next.Goals as goal
-
-pub go_on-action-requires-clause-low : goal.go_on-action-requires-clause-low
-go_on-action-requires-clause-low g c = omega (
-  arith,
-  c.self.invariant.2.known,
-  c.self.invariant.2.clock,
-  ap (λ (d : Course). d.clock) c.self.view_is,
-)
 
 pub unreachable-requires : goal.unreachable-requires
 unreachable-requires g c =

@@ -1,4 +1,4 @@
-use Rattle.std.proofs.Common.{◌<◌, ◌≤◌, length, refl, sym, ap, ◌∙◌, subst, arith}
+use Rattle.std.proofs.Common.{◌<◌, length, refl, sym, ap, ◌∙◌, subst}
 use Rattle.std.proofs.lemmas.Bool.{false≢true}
 use Rattle.dover_model.specs.declared.events.Event.TheVariants.{End}
 use Rattle.dover_model.specs.Common.{event_of, Prints}
@@ -66,14 +66,6 @@ go_on-action-requires-clause-some g c =
     subst (λ (d : Course). 0 < length d.ready) c.self.view_is
     (some_jobs _ c.is_empty.result c.if-is_empty.false c.is_empty.ensures.1)
 
-pub go_on-action-requires-clause-low : goal.go_on-action-requires-clause-low
-go_on-action-requires-clause-low g c = omega (
-  arith,
-  c.self.invariant.2.known,
-  c.self.invariant.2.clock,
-  ap (λ (d : Course). d.clock) c.self.view_is,
-)
-
 pub take-requires : goal.take-requires
 take-requires g c =
     let at = c.clock.ensures ∙ ap (λ (d : Course). d.clock) c.self-2.view_is in
@@ -89,10 +81,6 @@ returns-clause-no g c other = absurd (false≢true (sym other))
 pub returns-clause-kept : goal.returns-clause-kept
 returns-clause-kept g c = kept_on c.args.self.now c.go_on-action.new.self c.take.new.self c.go_on-action.ensures.kept
     c.take.ensures.kept
-
-pub returns-clause-fewer : goal.returns-clause-fewer
-returns-clause-fewer g c = subst (λ n. length c.take.new.self.ready ≤ n) c.go_on-action.ensures.fewer
-    c.take.ensures.fewer
 
 pub returns-then-not-prints-clause-freely : goal.returns-then-not-prints-clause-freely
 returns-then-not-prints-clause-freely g c other = c.go_on-action.ensures.freely

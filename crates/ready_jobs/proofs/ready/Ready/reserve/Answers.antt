@@ -1,8 +1,5 @@
 use Rattle.std.proofs.Common.{sym, ap, ◌∙◌, subst}
-use Rattle.dover_model.specs.Common.{HasSpentFor}
-use Rattle.ready_jobs.specs.Parts.{Parted, state_of}
 use Rattle.ready_jobs.specs.Course.{Follows, course_of}
-use Rattle.ready_jobs.specs.Spending.{HasPaid}
 use Rattle.ready_jobs.proofs.Courses.{follows_room}
 use Rattle.ready_jobs.proofs.ready.Ready.reserve.Goals as goal
 
@@ -18,12 +15,3 @@ invariant_of-self c =
       subst (λ p. Follows (course_of i.ratio p i.jobs i.done) old.0 old.1) (sym same)
           (follows_room (course_of i.ratio i.parts i.jobs i.done) q.room old.0 old.1 old.2),
     )
-
-pub returns-clause-paid : goal.returns-clause-paid
-returns-clause-paid c start now paid =
-    let i = c.self.inside in
-    let q = c.reserve.new.self in
-    let same = c.reserve.ensures.kept
-    ∙ ap (λ ts. record i.parts { waiting = ts; room = q.room }) c.reserve.ensures.same in
-    subst (λ (p : Parted). HasSpentFor i.jobs (state_of p) start now) (sym same)
-    (subst (λ d. HasPaid d start now) (sym c.self.view_is) paid)

@@ -1,4 +1,4 @@
-use Rattle.std.proofs.Common.{◌+◌, ◌*◌, ◌≤◌, length, sym, ap, subst, arith, filter}
+use Rattle.std.proofs.Common.{◌+◌, ◌*◌, ◌≤◌, sym, ap, subst, arith, filter}
 use Rattle.dover_model.specs.State.{is_held}
 use Rattle.waiting_pool.specs.Pools.{orders_of}
 use Rattle.ready_jobs.specs.Course.{Course}
@@ -38,7 +38,3 @@ returns-in-Some-clause-freely g c none = none_is_some (sym none)
 pub returns-in-Some-clause-kept : goal.returns-in-Some-clause-kept
 returns-in-Some-clause-kept g c =
     kept_on c.args.self.now c.due_before.new.self c.take.new.self c.due_before.ensures.kept c.take.ensures.kept
-
-pub returns-in-Some-clause-fewer : goal.returns-in-Some-clause-fewer
-returns-in-Some-clause-fewer g c =
-    subst (λ n. length c.take.new.self.ready ≤ n) c.due_before.ensures.fewer c.take.ensures.fewer

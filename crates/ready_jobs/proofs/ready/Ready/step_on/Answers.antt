@@ -47,9 +47,5 @@ pub returns-clause-kept : goal.returns-clause-kept
 returns-clause-kept g c =
     kept_on c.args.self.now c.due_next-due.new.self c.take.new.self c.due_next-due.ensures.kept c.take.ensures.kept
 
-pub returns-clause-fewer : goal.returns-clause-fewer
-returns-clause-fewer g c =
-    subst (λ n. length c.take.new.self.ready ≤ n) c.due_next-due.ensures.fewer c.take.ensures.fewer
-
 pub returns-then-is_empty-clause-once : goal.returns-then-is_empty-clause-once
 returns-then-is_empty-clause-once g c d fits = no_cost _ _

@@ -1,6 +1,5 @@
-use Rattle.std.proofs.Common.{◌≤◌, ◌∙◌, refl, subst}
+use Rattle.std.proofs.Common.{◌∙◌, refl, subst}
 use Rattle.dover_port.proofs.Through.{passes_nothing, passes_then}
-use Rattle.dover_port.specs.Causes.{Rose}
 use Rattle.dover_port.specs.Moves.{Passes, PutsThrough}
 use Rattle.dialogue.proofs.Putting.{puts_behind, puts_cut}
 use Rattle.task_words.specs.tasks.Merging.{blank_task}
@@ -38,20 +37,4 @@ returns-clause-text g c = record {
       (whole task_text c.args.tasks.now blank_task c.loop-number.number c.loop-number-test.false)
       c.loop-number.invariant.passes;
   part = tt;
-}
-
-pub returns-in-Err-clause-cause : goal.returns-in-Err-clause-cause
-returns-in-Err-clause-cause g c = record {
-  later = subst (λ n. n ≤ g.P.Port.write_faults c.put_task.new.port) c.loop-number.invariant.writes
-      c.in-Err.ensures.cause.later;
-  ok = tt;
-  failed = subst (λ n. Rose n (g.P.Port.write_faults c.put_task.new.port)) c.loop-number.invariant.writes
-      c.in-Err.ensures.cause.failed;
-  other = c.in-Err.ensures.cause.other ∙ c.loop-number.invariant.reads;
-}
-
-pub returns-in-Err-clause-stops : goal.returns-in-Err-clause-stops
-returns-in-Err-clause-stops g c = record {
-  well = tt;
-  stopped = λ well. c.in-Err.ensures.stops.stopped (c.loop-number.invariant.calls well);
 }

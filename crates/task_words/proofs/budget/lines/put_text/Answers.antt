@@ -1,5 +1,3 @@
-use Rattle.std.proofs.Common.{◌∙◌}
-use Rattle.std.proofs.lemmas.Result.{on_ok_weaker, on_err_weaker}
 use Rattle.dover_model.specs.Feed.{rules_with}
 use Rattle.dialogue.proofs.Putting.{puts_behind, puts_cut}
 use Rattle.task_words.proofs.budget.Texts.{text_through}
@@ -25,29 +23,3 @@ returns-in-Err-clause-cause g c = c.in-Err.ensures.cause
 
 pub returns-in-Err-clause-stops : goal.returns-in-Err-clause-stops
 returns-in-Err-clause-stops g c = c.in-Err.ensures.stops
-
-pub returns-in-Err-put_tasks-clause-cause : goal.returns-in-Err-put_tasks-clause-cause
-returns-in-Err-put_tasks-clause-cause g c =
-    rw (c.in-Ok.ensures.cause.ok, c.in-Ok.ensures.cause.other) at c.in-Err-put_tasks.ensures.cause
-
-pub returns-in-Err-put_tasks-clause-stops : goal.returns-in-Err-put_tasks-clause-stops
-returns-in-Err-put_tasks-clause-stops g c = record {
-  well = tt;
-  stopped = λ well. c.in-Err-put_tasks.ensures.stops.stopped (c.in-Ok.ensures.stops.well well);
-}
-
-pub returns-clause-cause : goal.returns-clause-cause
-returns-clause-cause g c = rw (
-  c.in-Ok-put_tasks.ensures.cause.ok ∙ c.in-Ok.ensures.cause.ok,
-  c.in-Ok-put_tasks.ensures.cause.other ∙ c.in-Ok.ensures.cause.other,
-) at c.put_numbers.ensures.cause
-
-pub returns-clause-stops : goal.returns-clause-stops
-returns-clause-stops g c = record {
-  well = on_ok_weaker c.put_numbers.result
-      (λ last well. last (c.in-Ok-put_tasks.ensures.stops.well (c.in-Ok.ensures.stops.well well)))
-      c.put_numbers.ensures.stops.well;
-  stopped = on_err_weaker c.put_numbers.result
-      (λ last well. last (c.in-Ok-put_tasks.ensures.stops.well (c.in-Ok.ensures.stops.well well)))
-      c.put_numbers.ensures.stops.stopped;
-}

@@ -9,22 +9,6 @@ room : (value work : ℕ) → value ≤ 1_000_000_000 → work ≤ 1_000_000_000
     → value * work ≤ 1_000_000_000 * 1_000_000_000_000
 room value work small_value small_work = mul-le value work 1_000_000_000 1_000_000_000_000 small_value small_work
 
-pub overflow_mul-result : goal.overflow_mul-result
-overflow_mul-result c =
-    let value : (get_or c.args.tasks.now c.args.number blank_task).value ≤ 1_000_000_000 =
-    (small_there c.args.tasks.now c.requires.small c.args.number c.requires.number).value in
-    let there : c.args.best < length c.args.tasks.now = omega (arith, c.requires.best, c.if-best-tasks.false) in
-    let within : (get_or c.args.tasks.now c.args.best blank_task).work
-    ≤ (get_or c.args.tasks.now c.args.best blank_task).deadline =
-    (small_there c.args.tasks.now c.requires.small c.args.best there).within in
-    let span : (get_or c.args.tasks.now c.args.best blank_task).deadline ≤ 1_000_000_000_000 =
-    (small_there c.args.tasks.now c.requires.small c.args.best there).span in
-    omega (
-      arith,
-      room c.from.result c.from-2.result (omega (arith, c.from.ensures, value))
-          (omega (arith, c.from-2.ensures, within, span)),
-    )
-
 pub overflow_mul-result-2 : goal.overflow_mul-result-2
 overflow_mul-result-2 c =
     let there : c.args.best < length c.args.tasks.now = omega (arith, c.requires.best, c.if-best-tasks.false) in

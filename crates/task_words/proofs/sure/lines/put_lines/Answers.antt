@@ -1,8 +1,7 @@
-use Rattle.std.proofs.Common.{◌≤◌, ◌∙◌, ◌++◌, ◌∷◌, [], refl, subst, arith}
+use Rattle.std.proofs.Common.{◌∙◌, ◌++◌, ◌∷◌, [], refl, subst, arith}
 use Rattle.std.proofs.lemmas.List.{length-map}
 use Rattle.dover_model.specs.Common.{blank_stream, rules_with}
 use Rattle.dover_port.proofs.Through.{passes_nothing, passes_then}
-use Rattle.dover_port.specs.Causes.{Rose}
 use Rattle.dover_port.specs.Moves.{CutsShort, Passes, PutsThrough}
 use Rattle.dialogue.proofs.Putting.{puts_behind, puts_cut}
 use Rattle.task_words.specs.sure.Lines.{sure_line}
@@ -53,20 +52,4 @@ returns-clause-text g c = record {
       (omega (arith, c.loop-number-test.false, length-map c.args.tasks.now stream_of)))
       c.loop-number.invariant.passes;
   part = tt;
-}
-
-pub returns-in-Err-clause-cause : goal.returns-in-Err-clause-cause
-returns-in-Err-clause-cause g c = record {
-  later = subst (λ n. n ≤ g.P.Port.write_faults c.put_told.new.port) c.loop-number.invariant.writes
-      c.in-Err.ensures.cause.later;
-  ok = tt;
-  failed = subst (λ n. Rose n (g.P.Port.write_faults c.put_told.new.port)) c.loop-number.invariant.writes
-      c.in-Err.ensures.cause.failed;
-  other = c.in-Err.ensures.cause.other ∙ c.loop-number.invariant.reads;
-}
-
-pub returns-in-Err-clause-stops : goal.returns-in-Err-clause-stops
-returns-in-Err-clause-stops g c = record {
-  well = tt;
-  stopped = λ well. c.in-Err.ensures.stops.stopped (c.loop-number.invariant.calls well);
 }

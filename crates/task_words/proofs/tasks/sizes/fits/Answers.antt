@@ -1,7 +1,7 @@
 use Rattle.std.proofs.Common.{◌≡◌, ◌<◌, ◌≤◌, ◌+◌, ◌-◌, ◌*◌, ℕ, List, length, take, get_or, IsTrue, false, refl, ap}
 use Rattle.std.proofs.Common.{arith, take_all}
 use Rattle.std.specs.List.{AllByRecursion}
-use Rattle.std.proofs.lemmas.List.Sums.{sum_by_more_le, sum_by_more}
+use Rattle.std.proofs.lemmas.List.Sums.{sum_by_more_le}
 use Rattle.dover_model.proofs.lists.Tests.{never}
 use Rattle.dover_model.proofs.valid.Valid.{all_from}
 use Rattle.task_words.specs.tasks.Limits.{Fits, IsTask, counts, worths}
@@ -108,10 +108,6 @@ worth_fits : (until more i : ℕ) (d : PeriodicTask) (tasks : List PeriodicTask)
 worth_fits until more i d tasks each there few = mul-le more (get_or tasks i d).value 1_000_000 1_000_000_000 few
     (job_limits (all_of (IsTask until) tasks i d each there).job).modest
 
-pub overflow_add-count : goal.overflow_add-count
-overflow_add-count c =
-    omega (arith, c.loop-task.invariant.few, c.if-more-from.false, c.from.ensures, c.most_jobs.ensures)
-
 pub overflow_mul-total : goal.overflow_mul-total
 overflow_mul-total c = omega (
   arith,
@@ -126,31 +122,3 @@ overflow_add-total c = omega (
   worth_fits c.args.until c.count_before-more.result c.loop-task.task-index blank_task c.args.tasks.now c.requires
       c.loop-task-test.true (omega (arith, c.if-more-from.false, c.from.ensures, c.most_jobs.ensures)),
 )
-
-pub loop-task-preserved : goal.loop-task-preserved
-loop-task-preserved c =
-    let until = c.args.until in
-    let tasks = c.args.tasks.now in
-    let i = c.loop-task.task-index in
-    record {
-      count_is = omega (
-        arith,
-        c.loop-task.invariant.count_is,
-        c.count_before-more.ensures.is,
-        sum_by_more (count_before until) tasks i blank_task c.loop-task-test.true,
-      );
-      total_is = omega (
-        arith,
-        c.loop-task.invariant.total_is,
-        ap (λ n. n * (get_or tasks i blank_task).value) c.count_before-more.ensures.is,
-        sum_by_more (λ task. count_before until task * task.value) tasks i blank_task c.loop-task-test.true,
-      );
-      few = omega (
-        arith,
-        c.loop-task.invariant.few,
-        c.if-more-from.false,
-        c.from.ensures,
-        c.most_jobs.ensures,
-      );
-      modest = omega (arith, c.if-total-most_total.false, c.most_total.ensures);
-    }

@@ -3,7 +3,6 @@ use Rattle.std.proofs.Common.{replicate, get_or, ◌≡◌, ap, refl, length-set
 use Rattle.std.proofs.lemmas.List.Sums.{count_by-le-length}
 use Rattle.std.proofs.lemmas.List.{length-replicate}
 use Rattle.place_heap.specs.Items.{ItemFacts}
-use Rattle.std.proofs.Math.Nat.{mul-le-mul_left}
 use Rattle.task_words.specs.tasks.Merging.{IsNext, blank_task, kept_release}
 use Rattle.task_words.proofs.tasks.Merging.{first_more, stands_first}
 use Rattle.task_words.proofs.tasks.unrolling.first_releases.Goals as goal
@@ -54,13 +53,6 @@ loop-task-init g c =
       rest = λ n _. ap (λ t. get_or t n None) is ∙ none_there (length c.args.tasks.now) n;
       count = λ d enough. omega arith;
     }
-
-pub returns-clause-count : goal.returns-clause-count
-returns-clause-count g c = λ d enough. omega (
-  arith,
-  c.loop-task.invariant.count d enough,
-  mul-le-mul_left d c.loop-task.auto.task-index-end,
-)
 
 pub returns-clause-stands : goal.returns-clause-stands
 returns-clause-stands g c = stands_first c.args.tasks.now c.args.until c.loop-task.next c.requires.known

@@ -99,11 +99,6 @@ new-requires-clause-known g c = c.requires.known
 pub put_feed-requires-clause-stands : goal.put_feed-requires-clause-stands
 put_feed-requires-clause-stands g c = c.in-Ok-new.ensures.stands
 
-pub put_feed-requires-clause-each : goal.put_feed-requires-clause-each
-put_feed-requires-clause-each g c =
-    subst (λ n. AllByRecursion (IsTask n) c.in-Ok-new.unrolling.tasks) (sym c.in-Ok-new.ensures.until)
-    (subst (AllByRecursion (IsTask c.args.until)) (sym c.in-Ok-new.ensures.tasks) c.requires.are.each)
-
 pub put_feed-requires-clause-few : goal.put_feed-requires-clause-few
 put_feed-requires-clause-few g c =
     subst (λ n. length (jobs_before n c.in-Ok-new.unrolling.tasks) ≤ 1_000_000) (sym c.in-Ok-new.ensures.until)

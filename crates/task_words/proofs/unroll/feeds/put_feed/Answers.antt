@@ -1,9 +1,8 @@
-use Rattle.std.proofs.Common.{◌∙◌, arith}
+use Rattle.std.proofs.Common.{arith}
 use Rattle.dover_model.specs.Feed.{rules_with}
 use Rattle.dialogue.proofs.Putting.{puts_behind, puts_cut}
 use Rattle.task_words.specs.tasks.Tasks.{unrolled}
 use Rattle.dialogue.proofs.lines.FeedTexts.{feed_through}
-use Rattle.std.proofs.lemmas.Result.{on_ok_weaker, on_err_weaker}
 use Rattle.task_words.proofs.unroll.feeds.put_feed.Goals as goal
 
 pub returns-in-Err-clause-text : goal.returns-in-Err-clause-text
@@ -29,22 +28,6 @@ returns-in-Err-clause-cause g c = c.in-Err.ensures.cause
 pub returns-in-Err-clause-stops : goal.returns-in-Err-clause-stops
 returns-in-Err-clause-stops g c = c.in-Err.ensures.stops
 
-pub returns-in-Err-put_jobs-clause-cause : goal.returns-in-Err-put_jobs-clause-cause
-returns-in-Err-put_jobs-clause-cause g c =
-    rw (c.in-Ok.ensures.cause.ok, c.in-Ok.ensures.cause.other) at c.in-Err-put_jobs.ensures.cause
-
-pub returns-in-Err-put_jobs-clause-stops : goal.returns-in-Err-put_jobs-clause-stops
-returns-in-Err-put_jobs-clause-stops g c = record {
-  well = tt;
-  stopped = λ well. c.in-Err-put_jobs.ensures.stops.stopped (c.in-Ok.ensures.stops.well well);
-}
-
-pub returns-clause-cause : goal.returns-clause-cause
-returns-clause-cause g c = rw (
-  c.in-Ok-put_jobs.ensures.cause.ok ∙ c.in-Ok.ensures.cause.ok,
-  c.in-Ok-put_jobs.ensures.cause.other ∙ c.in-Ok.ensures.cause.other,
-) at c.put_feed_line.ensures.cause
-
 pub put_jobs-requires-clause-stands : goal.put_jobs-requires-clause-stands
 put_jobs-requires-clause-stands g c = c.requires.stands
 
@@ -62,13 +45,3 @@ returns-in-Err-put_jobs-clause-count g c = c.put_jobs.ensures.count
 
 pub returns-clause-count : goal.returns-clause-count
 returns-clause-count g c = c.put_jobs.ensures.count
-
-pub returns-clause-stops : goal.returns-clause-stops
-returns-clause-stops g c = record {
-  well = on_ok_weaker c.put_feed_line.result
-      (λ last well. last (c.in-Ok-put_jobs.ensures.stops.well (c.in-Ok.ensures.stops.well well)))
-      c.put_feed_line.ensures.stops.well;
-  stopped = on_err_weaker c.put_feed_line.result
-      (λ last well. last (c.in-Ok-put_jobs.ensures.stops.well (c.in-Ok.ensures.stops.well well)))
-      c.put_feed_line.ensures.stops.stopped;
-}

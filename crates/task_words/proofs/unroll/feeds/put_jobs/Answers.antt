@@ -1,9 +1,7 @@
-use Rattle.std.proofs.Common.{refl, ap, ◌∙◌, ◌∷◌, ◌++◌, [], ◌+◌, length, length-append, arith, sym, subst, append-nil}
+use Rattle.std.proofs.Common.{refl, ap, ◌∙◌, ◌∷◌, ◌++◌, [], ◌+◌, length, length-append, arith, sym, append-nil}
 use Rattle.task_words.proofs.unroll.Putting.{put_all, put_few, put_more, put_cut, same_jobs}
 use Rattle.task_words.proofs.unroll.Spending.{came_few, all_cost}
-use Rattle.std.specs.List.{AllByRecursion}
 use Rattle.dover_port.proofs.Made.{since_none}
-use Rattle.task_words.specs.tasks.Limits.{IsTask}
 use Rattle.task_words.proofs.unroll.feeds.put_jobs.Goals as goal
 
 pub returns-in_default-clause-text : goal.returns-in_default-clause-text
@@ -81,34 +79,11 @@ returns-in-Err-clause-count g c = λ d enough. let kept = c.loop-count.invariant
       c.next_job.ensures.count d (omega (arith, enough, ap length kept.tasks)),
     ))
 
-pub returns-in_default-clause-cause : goal.returns-in_default-clause-cause
-returns-in_default-clause-cause g c = let kept = c.loop-count.invariant in record {
-  later = omega (arith, kept.writes);
-  ok = kept.writes;
-  failed = tt;
-  other = kept.reads;
-}
-
 pub returns-in_default-clause-stops : goal.returns-in_default-clause-stops
 returns-in_default-clause-stops g c = record { well = c.loop-count.invariant.calls; stopped = tt }
 
-pub returns-in-Err-clause-cause : goal.returns-in-Err-clause-cause
-returns-in-Err-clause-cause g c =
-    rw (c.loop-count.invariant.writes, c.loop-count.invariant.reads) at c.in-Err.ensures.cause
-
-pub returns-in-Err-clause-stops : goal.returns-in-Err-clause-stops
-returns-in-Err-clause-stops g c = record {
-  well = tt;
-  stopped = λ well. c.in-Err.ensures.stops.stopped (c.loop-count.invariant.calls well);
-}
-
 pub next_job-requires-clause-stands : goal.next_job-requires-clause-stands
 next_job-requires-clause-stands g c = (c.loop-count.invariant.put.done, c.loop-count.invariant.put.stands)
-
-pub next_job-requires-clause-each : goal.next_job-requires-clause-each
-next_job-requires-clause-each g c =
-    subst (λ n. AllByRecursion (IsTask n) c.loop-count.unrolling.tasks) (sym c.loop-count.invariant.until)
-    (subst (AllByRecursion (IsTask c.args.unrolling.now.until)) (sym c.loop-count.invariant.tasks) c.requires.each)
 
 pub loop-count-init : goal.loop-count-init
 loop-count-init g c = record {

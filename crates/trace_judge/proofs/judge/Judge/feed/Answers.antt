@@ -1,7 +1,6 @@
-use Rattle.std.proofs.Common.{◌≡◌, sym, ap, ◌∙◌}
+use Rattle.std.proofs.Common.{sym, ap, ◌∙◌}
 use Rattle.std.proofs.lemmas.List.{take_rest}
 use Rattle.dover_model.proofs.lists.Tests.{never}
-use Rattle.trace_judge.specs.declared.judge.Found.TheVariants.{Good, NoMemory}
 use Rattle.trace_judge.specs.Judging.{Judged}
 use Rattle.trace_judge.proofs.Judging.{err_of, wrong_fed, good_not_wrong, stands_good, stands_not}
 use Rattle.trace_judge.proofs.Spending.{pays_none}
@@ -61,7 +60,3 @@ returns-in-NoMemory-clause-room g c text stands = absurd (stands_not c.args.self
 pub returns-in-NoMemory-clause-decided : goal.returns-in-NoMemory-clause-decided
 returns-in-NoMemory-clause-decided g c text stands _ = absurd (stands_not c.args.self.now text
     (ap (λ (j : Judged). j.found) (sym c.self.view_is) ∙ c.in-NoMemory.is) stands)
-
-pub returns-clause-stays : goal.returns-clause-stays
-returns-clause-stays g c none =
-    let clash : Good ≡ NoMemory = sym c.in-Good.is ∙ ap (λ (j : Judged). j.found) c.self.view_is ∙ none in cc

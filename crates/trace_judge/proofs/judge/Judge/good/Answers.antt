@@ -33,14 +33,3 @@ returns-in-Going c text stands =
       good.cut.count,
       c.count-in-Going.ensures,
     ))
-
-pub returns-in-Opening : goal.returns-in-Opening
-returns-in-Opening c text stands =
-    let good = subst (λ j. IsGood j text) (sym c.self.view_is) (stands_good c.args.self.now text c.requires stands) in
-    reads_short c.self.inside.reader text good.reads (ap is_ended (sym c.stage.ensures ∙ c.in-Opening.is)) good.counts
-    ∙ ap model.Short (omega (
-      arith,
-      reads_few c.self.inside.reader (whole_lines text) good.reads,
-      good.cut.count,
-      c.count.ensures,
-    ))

@@ -1,6 +1,6 @@
-use Rattle.std.proofs.Common.{◌∙◌, sym, ap, subst, arith}
+use Rattle.std.proofs.Common.{sym, ap, subst, arith}
 use Rattle.trace_judge.specs.Reads.{Reading}
-use Rattle.trace_judge.specs.Judging.{Judged, StandsFor, HasPaidFor}
+use Rattle.trace_judge.specs.Judging.{Judged, StandsFor}
 use Rattle.trace_judge.proofs.Judging.{room_stands}
 use Rattle.trace_judge.proofs.judge.Judge.reserve.Goals as goal
 
@@ -12,21 +12,5 @@ returns-clause-stands c text stands =
     (room_stands j c.reserve.new.self.course.room c.reserve.new.self.spare c.reserve.new.self.room text
     (subst (λ was. StandsFor was text) (sym c.self.view_is) stands))
 
-pub returns-clause-paid : goal.returns-clause-paid
-returns-clause-paid c text start now it =
-    let was = subst (λ j. HasPaidFor j text start now) (sym c.self.view_is) it in
-    record {
-      paid = c.reserve.ensures.paid start now was.paid;
-      few = omega (arith, was.few, ap (λ (r : Reading). r.course.jobs) c.reserve.ensures.same);
-    }
-
-pub returns-clause-keep : goal.returns-clause-keep
-returns-clause-keep c =
-    ap (λ (r : Reading). r.keep) c.reserve.ensures.same ∙ ap (λ (j : Judged). j.reader.keep) c.self.view_is
-
 pub returns-clause-grows : goal.returns-clause-grows
 returns-clause-grows c = omega (arith, c.reserve.ensures.grows, ap (λ (j : Judged). j.reader.spare) c.self.view_is)
-
-pub returns-clause-enough : goal.returns-clause-enough
-returns-clause-enough c text stands few =
-    c.reserve.ensures.enough (omega (arith, few, ap (λ (j : Judged). j.reader.spare) c.self.view_is))

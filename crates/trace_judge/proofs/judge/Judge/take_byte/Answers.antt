@@ -1,5 +1,5 @@
 use Rattle.std.proofs.Common.{◌<◌, ◌++◌, ◌∷◌, [], ℕ, List, length, sym, ap, ◌∙◌, subst, arith}
-use Rattle.line_text.specs.declared.cutting.ByteEffect.TheVariants.{More, Line, TooLong}
+use Rattle.line_text.specs.declared.cutting.ByteEffect.TheVariants.{More, Line}
 use Rattle.line_text.specs.Cutting.{Cutting}
 use Rattle.trace_judge.specs.Reads.{IsPaid, Reading, job_lines_in}
 use Rattle.trace_judge.specs.Judging.{Judged, StandsFor, IsGood, IsCut, Fed, IsOverfed, HasPaidFor}
@@ -66,20 +66,6 @@ returns-in-More-clause-fed g c =
       keep = ap (λ (r : Reading). r.keep) c.go_on.ensures.reader;
     })
 
-pub returns-in-TooLong-clause-fed : goal.returns-in-TooLong-clause-fed
-returns-in-TooLong-clause-fed g c =
-    let old : Judged =
-    record { lines = c.self.inside.lines; reader = c.self.inside.reader; found = c.self.inside.found } in
-    let good = ap (λ (j : Judged). j.found) c.self.view_is ∙ c.requires.good in
-    subst (λ j. Fed j c.overrun.new.self (c.args.byte ∷ [])) c.self.view_is (record {
-      stands = λ text stands. c.overrun.ensures.stands text (text ++ c.args.byte ∷ [])
-          (is_cut old c.push.new.self TooLong c.args.byte text
-          (stands_good old text good stands)
-          c.push.ensures.stands (sym c.in-TooLong.is ∙ c.push.ensures.last) c.in-TooLong.ensures.cut);
-      spare = λ text stands. omega (arith, c.overrun.ensures.kept.spare, named_more text (c.args.byte ∷ []));
-      keep = c.overrun.ensures.kept.keep;
-    })
-
 pub returns-in-Line-clause-paid : goal.returns-in-Line-clause-paid
 returns-in-Line-clause-paid g c = λ text start stands it.
     let was = subst (λ j. HasPaidFor j text start c.args.comparisons.now) (sym c.self.view_is) it in
@@ -119,7 +105,3 @@ returns-in-TooLong-clause-paid g c = λ text start stands it.
       paid = c.overrun.ensures.paid start was.paid;
       few = omega (arith, c.overrun.ensures.kept.jobs, was.few, named_more text (c.args.byte ∷ []));
     }
-
-pub overrun-requires : goal.overrun-requires
-overrun-requires g c =
-    record { good = ap (λ (j : Judged). j.found) c.self.view_is ∙ c.requires.good }

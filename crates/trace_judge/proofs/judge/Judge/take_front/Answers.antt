@@ -1,7 +1,6 @@
-use Rattle.std.proofs.Common.{sym, subst, take}
+use Rattle.std.proofs.Common.{sym, subst}
 use Rattle.std.proofs.lemmas.List.{take_more}
-use Rattle.line_text.specs.Cutting.{IsWholeLine}
-use Rattle.trace_judge.specs.Judging.{Judged, Fed, IsOverfed, PaysFor}
+use Rattle.trace_judge.specs.Judging.{Fed, IsOverfed, PaysFor}
 use Rattle.trace_judge.proofs.Judging.{err_of, none_of}
 use Rattle.trace_judge.proofs.EndedLines.{overfed_front, pays_front}
 use Rattle.trace_judge.proofs.judge.Judge.take_front.Goals as goal
@@ -55,11 +54,6 @@ pub returns-in_err-take_byte-clause-paid : goal.returns-in_err-take_byte-clause-
 returns-in_err-take_byte-clause-paid g c =
     none_of _ c.from_residual-in_err-take_byte.result c.from_residual-in_err-take_byte.ensures.0
 
-pub returns-in_err-take_byte-clause-failed : goal.returns-in_err-take_byte-clause-failed
-returns-in_err-take_byte-clause-failed g c =
-    err_of c.from_residual-in_err-take_byte.result c.from_residual-in_err-take_byte.ensures.0
-    c.in_err-take_byte.ensures.failed
-
 pub returns-then-count-gt1-clause-fed : goal.returns-then-count-gt1-clause-fed
 returns-then-count-gt1-clause-fed g c = c.in_ok-take_whole.ensures.fed
 
@@ -78,8 +72,3 @@ returns-clause-fed g c = subst (Fed c.args.self.now c.take_byte.new.self)
 
 pub returns-clause-within : goal.returns-clause-within
 returns-clause-within g c = c.requires.some
-
-pub take_whole-requires-clause-whole : goal.take_whole-requires-clause-whole
-take_whole-requires-clause-whole g c =
-    subst (λ (j : Judged). IsWholeLine j.lines (take c.front-count.result c.args.bytes.now)) c.self.view_is
-    (c.front-count.ensures.whole c.if-count-gt1.true)

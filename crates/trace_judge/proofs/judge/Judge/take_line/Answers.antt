@@ -15,15 +15,6 @@ returns-clause-stands g c = ok_onto c.note.result c.note.ensures.ok (λ ok befor
     (ap (λ (j : Judged). j.found) c.self.view_is ∙ c.requires.good) at.cut at.parts at.reads c.take-taken.result ok
     (rw c.line.ensures at c.take-taken.ensures.took) c.note.ensures.notes)
 
-pub returns-clause-spare : goal.returns-clause-spare
-returns-clause-spare g c = omega (
-  arith,
-  rw c.line.ensures at c.take-taken.ensures.spare,
-  c.note.ensures.kept.spare,
-  ap (λ (j : Judged). j.reader.spare) c.self.view_is,
-  ap (λ (j : Judged). job_lines_in j.lines.line) c.self.view_is,
-)
-
 pub returns-clause-room : goal.returns-clause-room
 returns-clause-room g c = err_onto c.note.result c.note.ensures.err (λ failed.
     let more = unroomed c.take-taken.result _ _ c.take-taken.ensures.room failed in omega (
@@ -32,15 +23,6 @@ returns-clause-room g c = err_onto c.note.result c.note.ensures.err (λ failed.
       ap (λ (j : Judged). j.reader.spare) c.self.view_is,
       ap (λ (j : Judged). job_lines_in j.lines.line) c.self.view_is,
     ))
-
-pub returns-clause-jobs : goal.returns-clause-jobs
-returns-clause-jobs g c = omega (
-  arith,
-  rw c.line.ensures at c.take-taken.ensures.jobs,
-  c.note.ensures.kept.jobs,
-  ap (λ (j : Judged). j.reader.course.jobs) c.self.view_is,
-  ap (λ (j : Judged). job_lines_in j.lines.line) c.self.view_is,
-)
 
 pub returns-clause-paid : goal.returns-clause-paid
 returns-clause-paid g c start paid = c.note.ensures.paid start (c.take-taken.ensures.paid start

@@ -9,10 +9,6 @@ pub release-requires-clause-course : goal.release-requires-clause-course
 release-requires-clause-course c = release_course _ c.args.job _ c.requires.can.0
     (subst (λ r. CanRelease r c.args.job c.requires.can.0) (sym c.self.view_is) c.requires.can.1)
 
-pub release-requires-clause-ahead : goal.release-requires-clause-ahead
-release-requires-clause-ahead c =
-    (subst (λ r. CanRelease r c.args.job c.requires.can.0) (sym c.self.view_is) c.requires.can.1).waited.low
-
 pub release-requires-clause-room : goal.release-requires-clause-room
 release-requires-clause-room c = omega (
   arith,

@@ -1,4 +1,3 @@
-use Rattle.std.proofs.Common.{◌∙◌}
 use Rattle.trace_judge.proofs.Completing.{completion_took}
 use Rattle.trace_judge.proofs.reader.TraceReader.complete.Goals as goal
 
@@ -16,10 +15,3 @@ returns-then-finish_early-clause-took g c = c.finish_early.ensures.yes c.if-fini
 
 pub returns-then-finish_early-clause-paid : goal.returns-then-finish_early-clause-paid
 returns-then-finish_early-clause-paid g c = c.finish_early.ensures.paid
-
-pub returns-clause-kept : goal.returns-clause-kept
-returns-clause-kept g c = record {
-  keep = c.follow.ensures.kept.keep ∙ c.finish_early.ensures.kept.keep;
-  spare = c.follow.ensures.kept.spare ∙ c.finish_early.ensures.kept.spare;
-  jobs = c.follow.ensures.kept.jobs ∙ c.finish_early.ensures.kept.jobs;
-}

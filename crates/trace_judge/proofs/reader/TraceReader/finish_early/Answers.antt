@@ -78,10 +78,6 @@ returns-then-not-waits_until-clause-yes g c clash = never clash
 pub returns-then-not-waits_until-clause-ahead : goal.returns-then-not-waits_until-clause-ahead
 returns-then-not-waits_until-clause-ahead g c _ = c.waits_until.ensures.ahead
 
-pub returns-then-not-waits_until-clause-stage : goal.returns-then-not-waits_until-clause-stage
-returns-then-not-waits_until-clause-stage g c _ =
-    ap (λ (r : Reading). r.stage) c.waits_until.ensures.kept ∙ c.requires.going
-
 pub returns-then-not-waits_until-clause-kept : goal.returns-then-not-waits_until-clause-kept
 returns-then-not-waits_until-clause-kept g c = unchanged_on c.args.self.now c.waits_until.new.self
     c.waits_until.ensures.kept c.waits_until.ensures.course.jobs
@@ -95,10 +91,6 @@ returns-then-not-is_right-clause-yes g c clash = never clash
 pub returns-then-not-is_right-clause-ahead : goal.returns-then-not-is_right-clause-ahead
 returns-then-not-is_right-clause-ahead g c _ = c.waits_until.ensures.ahead
 
-pub returns-then-not-is_right-clause-stage : goal.returns-then-not-is_right-clause-stage
-returns-then-not-is_right-clause-stage g c _ =
-    ap (λ (r : Reading). r.stage) c.waits_until.ensures.kept ∙ c.requires.going
-
 pub returns-then-not-is_right-clause-kept : goal.returns-then-not-is_right-clause-kept
 returns-then-not-is_right-clause-kept g c = unchanged_on c.args.self.now c.waits_until.new.self
     c.waits_until.ensures.kept c.waits_until.ensures.course.jobs
@@ -111,13 +103,6 @@ returns-clause-ahead g c clash = never (sym clash)
 
 pub returns-clause-stage : goal.returns-clause-stage
 returns-clause-stage g c clash = never (sym clash)
-
-pub returns-clause-kept : goal.returns-clause-kept
-returns-clause-kept g c = record {
-  keep = c.finish.ensures.kept.keep ∙ ap (λ (r : Reading). r.keep) c.waits_until.ensures.kept;
-  spare = c.finish.ensures.kept.spare ∙ ap (λ (r : Reading). r.spare) c.waits_until.ensures.kept;
-  jobs = c.finish.ensures.kept.jobs ∙ c.waits_until.ensures.course.jobs;
-}
 
 pub finish-requires-clause-going : goal.finish-requires-clause-going
 finish-requires-clause-going g c = ap (λ (r : Reading). r.stage) c.waits_until.ensures.kept ∙ c.requires.going

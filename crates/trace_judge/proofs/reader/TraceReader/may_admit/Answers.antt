@@ -1,4 +1,4 @@
-use Rattle.std.proofs.Common.{◌≡◌, true, false, None, Result, Ok, Err, sym, ap, ◌∙◌, subst, arith, is_ok}
+use Rattle.std.proofs.Common.{◌≡◌, true, false, None, Result, Ok, Err, sym, ap, ◌∙◌, subst, is_ok}
 use Rattle.dover_model.specs.Common.{JobFacts, job_of_numbers, refusal_of}
 use Rattle.admission.specs.Kept.{Kept, StandsFor}
 use Rattle.admission.specs.Answers.{refusal_in}
@@ -22,7 +22,3 @@ returns-clause-no c failed _ _ jobs stands none =
     (sym (c.check-checked.ensures.refusal jobs (subst (λ kept. StandsFor kept jobs) (sym kept_is) stands))
     ∙ ap (refusal_of c.self.inside.admission.rules jobs) same
     ∙ ap (λ (kept : Kept). refusal_of kept.rules jobs j) kept_is ∙ none)
-
-pub returns-then-not-has_room-clause-no : goal.returns-then-not-has_room-clause-no
-returns-then-not-has_room-clause-no c _ _ room _ _ _ =
-    absurd (omega (arith, room, c.has_room.ensures.no c.if-not-has_room.true))

@@ -2,7 +2,7 @@ use Rattle.std.proofs.Common.{◌≡◌, ◌<◌, ◌≤◌, ℕ, List, ◌==◌
 use Rattle.std.proofs.Common.{lt-ltb, le-ltb}
 use Rattle.std.specs.Bool.{then_some}
 use Rattle.std.specs.Option.{option_or}
-use Rattle.dover_model.specs.Common.{refusal_of, Declaration, JobFacts, job_of_numbers, refuses_lines, late_refusal}
+use Rattle.dover_model.specs.Common.{refusal_of, Declaration, JobFacts, job_of_numbers, late_refusal}
 use Rattle.dover_model.specs.declared.events.Refusal.{Refusal}
 use Rattle.dover_model.specs.declared.events.Refusal.TheVariants.{Full}
 use Rattle.dover_model.proofs.lists.Members.{some_same}
@@ -16,34 +16,9 @@ use Rattle.trace_judge.proofs.reader.TraceReader.may_refuse.Goals.{After-is_full
 pub returns-then-not-has_room-clause-refuses : goal.returns-then-not-has_room-clause-refuses
 returns-then-not-has_room-clause-refuses c clash = never clash
 
-pub returns-then-not-is_known-clause-no : goal.returns-then-not-is_known-clause-no
-returns-then-not-is_known-clause-no c _ _ known _ _ _ _ =
-    absurd (omega (arith, known, c.is_known.ensures.no c.if-not-is_known.true))
-
 pub returns-then-not-has_room-clause-no : goal.returns-then-not-has_room-clause-no
 returns-then-not-has_room-clause-no c _ _ _ room _ _ _ =
     absurd (omega (arith, room, c.has_room.ensures.no c.if-not-has_room.true))
-
-pub returns-in-Ok-clause-yes : goal.returns-in-Ok-clause-yes
-returns-in-Ok-clause-yes c _ = (
-  ap (λ (r : Reading). refuses_lines r.kept.rules.version) (sym c.self.view_is)
-      ∙ ap refuses_lines (sym c.version.ensures) ∙ sym c.refuses_lines.ensures ∙ c.if-not-refuses_lines.false,
-  c.is_known.ensures.yes c.if-not-is_known.false,
-  c.has_room.ensures.yes c.if-not-has_room.false,
-)
-
-pub returns-in-Err-clause-yes : goal.returns-in-Err-clause-yes
-returns-in-Err-clause-yes c _ = (
-  ap (λ (r : Reading). refuses_lines r.kept.rules.version) (sym c.self.view_is)
-      ∙ ap refuses_lines (sym c.version.ensures) ∙ sym c.refuses_lines.ensures ∙ c.if-not-refuses_lines.false,
-  c.is_known.ensures.yes c.if-not-is_known.false,
-  c.has_room.ensures.yes c.if-not-has_room.false,
-)
-
-pub returns-then-not-refuses_lines-clause-no : goal.returns-then-not-refuses_lines-clause-no
-returns-then-not-refuses_lines-clause-no c _ lines _ _ _ _ _ = never (sym
-    (ap (λ (r : Reading). refuses_lines r.kept.rules.version) (sym c.self.view_is)
-    ∙ ap refuses_lines (sym c.version.ensures) ∙ sym c.refuses_lines.ensures ∙ c.if-not-refuses_lines.true) ∙ lines)
 
 -- ---- a job line that comes too late
 
@@ -90,10 +65,6 @@ told_refused c jobs stands =
     cause_then _ _ jobs c.args.at (job_of_numbers c.args.release c.args.work c.args.deadline c.args.value) _
     (ap (λ (r : Reading). r.kept) c.self.view_is) c.if-release-at.false stands c.in-Err.ensures.refusal
     ∙ ap Some (sym c.refusal.ensures)
-
-pub returns-in-Err-clause-refuses : goal.returns-in-Err-clause-refuses
-returns-in-Err-clause-refuses c right jobs stands =
-    told_refused c jobs stands ∙ ap Some (c.is_same_cause.ensures.0 right)
 
 pub returns-in-Err-clause-no : goal.returns-in-Err-clause-no
 returns-in-Err-clause-no c wrong _ _ _ jobs stands is =

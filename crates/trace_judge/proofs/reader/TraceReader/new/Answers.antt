@@ -59,9 +59,3 @@ invariant_of-result c =
 
 pub returns-clause-reads : goal.returns-clause-reads
 returns-clause-reads c = opens c
-
-pub returns-clause-paid : goal.returns-clause-paid
-returns-clause-paid c now = record {
-  paid = c.in_ok-new.ensures.paid now;
-  freely = λ low. absurd (omega (arith, low, ap (λ (d : Course). d.clock) c.in_ok-new.ensures.empty));
-}

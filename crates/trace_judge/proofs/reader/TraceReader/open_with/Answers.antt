@@ -1,6 +1,5 @@
 use Rattle.std.proofs.Common.{◌∙◌, sym, ap}
 use Rattle.trace_judge.specs.Reads.{Reading}
-use Rattle.trace_judge.proofs.Readings.{opens_of}
 use Rattle.trace_judge.proofs.Taking.{no_version, no_ratio, no_declaration, opened_took, opened_reader}
 use Rattle.trace_judge.proofs.reader.TraceReader.open_with.Goals as goal
 
@@ -37,8 +36,3 @@ returns-clause-took c = opened_took _ (ap (λ (r : Reading). r.stage) c.self.vie
     (sym c.may_declare.ensures ∙ c.if-not-may_declare.false) c.declare.new.self
     c.new-self-inside.result c.declare.ensures.rules c.new-self-inside.ensures.rules
     c.new-self-inside.ensures.stands _ c.self.view_is
-
-pub declare-requires-clause-dense : goal.declare-requires-clause-dense
-declare-requires-clause-dense c =
-    let is = ap (λ (r : Reading). r.stage) c.self.view_is ∙ c.requires.opening in
-    (opens_of _ c.self.invariant.lines is c.self.invariant.reads).dense

@@ -77,13 +77,6 @@ returns-then-not-bears_out-clause-kept g c = unchanged_on c.args.self.now c.wait
 pub returns-then-not-bears_out-clause-paid : goal.returns-then-not-bears_out-clause-paid
 returns-then-not-bears_out-clause-paid g c = c.waits_until.ensures.paid
 
-pub returns-clause-kept : goal.returns-clause-kept
-returns-clause-kept g c = let same = c.self-2.view_is ∙ c.waits_until.ensures.kept in record {
-  keep = ap (λ (r : Reading). r.keep) same;
-  spare = ap (λ (r : Reading). r.spare) same;
-  jobs = ap (λ (r : Reading). r.course.jobs) c.self-2.view_is ∙ c.waits_until.ensures.course.jobs;
-}
-
 pub waits_until-requires-clause-known : goal.waits_until-requires-clause-known
 waits_until-requires-clause-known g c = omega (
   arith,

@@ -3,7 +3,6 @@ use Rattle.trace_judge.specs.Reads.{IsPaid, Reading}
 use Rattle.trace_judge.proofs.Readings.{few_items, unchanged_on}
 use Rattle.trace_judge.proofs.Refusals.{not_waited, refused_few, refused_took, refused_reader, done_line, done_named}
 use Rattle.trace_judge.proofs.Refusals.{done_not, done_may, done_right}
-use Rattle.dover_model.proofs.valid.Limiting.{tick_most}
 use Rattle.trace_judge.proofs.reader.TraceReader.refuse_done.Goals as goal
 
 pub returns-then-not-may_refuse_done-clause-took : goal.returns-then-not-may_refuse_done-clause-took
@@ -75,20 +74,6 @@ returns-then-is_right_done-clause-kept g c = unchanged_on c.args.self.now c.wait
 
 pub returns-then-is_right_done-clause-paid : goal.returns-then-is_right_done-clause-paid
 returns-then-is_right_done-clause-paid g c = c.waits_until.ensures.paid
-
-pub returns-clause-kept : goal.returns-clause-kept
-returns-clause-kept g c = let same = c.self-2.view_is ∙ c.waits_until.ensures.kept in record {
-  keep = ap (λ (r : Reading). r.keep) same;
-  spare = ap (λ (r : Reading). r.spare) same;
-  jobs = ap (λ (r : Reading). r.course.jobs) c.self-2.view_is ∙ c.waits_until.ensures.course.jobs;
-}
-
-pub waits_until-requires-clause-known : goal.waits_until-requires-clause-known
-waits_until-requires-clause-known g c = omega (
-  arith,
-  (c.may_refuse_done.ensures.yes c.if-not-may_refuse_done.false).1,
-  tick_most c.args.self.now.kept.rules.version,
-)
 
 pub is_right_done-requires : goal.is_right_done-requires
 is_right_done-requires g c = record { low = (c.may_refuse_done.ensures.yes c.if-not-may_refuse_done.false).2 }

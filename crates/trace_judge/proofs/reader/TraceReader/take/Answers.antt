@@ -1,12 +1,6 @@
-use Rattle.std.proofs.Common.{subst, arith, IfOk}
-use Rattle.trace_judge.specs.Reads.{Took}
+use Rattle.std.proofs.Common.{arith}
 use Rattle.trace_judge.proofs.Unread.{unread_took, jobs_counted}
 use Rattle.trace_judge.proofs.reader.TraceReader.take.Goals as goal
-
-pub returns-in-Ok-clause-took : goal.returns-in-Ok-clause-took
-returns-in-Ok-clause-took g c =
-    subst (λ l. IfOk c.take_read.result (Took c.args.self.now c.take_read.new.self l)) c.in-Ok.ensures.text
-    c.take_read.ensures.took
 
 pub returns-in-Ok-clause-room : goal.returns-in-Ok-clause-room
 returns-in-Ok-clause-room g c room = c.take_read.ensures.room

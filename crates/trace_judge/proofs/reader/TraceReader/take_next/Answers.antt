@@ -1,6 +1,6 @@
-use Rattle.std.proofs.Common.{◌≤◌, ◌+◌, sym, subst, false, arith, IfOk}
+use Rattle.std.proofs.Common.{sym, subst, false, arith}
 use Rattle.line_text.specs.traces.Form.{HasForm, trace_text}
-use Rattle.trace_judge.specs.Reads.{Took, jobs_in}
+use Rattle.trace_judge.specs.Reads.{Took}
 use Rattle.trace_judge.proofs.Unread.{header_took_none}
 use Rattle.trace_judge.proofs.reader.TraceReader.take_next.Goals as goal
 
@@ -9,25 +9,6 @@ returns-in-Header-clause-took g c =
     subst (λ read. Took c.args.self.now c.args.self.now (trace_text read) false) (sym c.in-Header.is)
     (header_took_none c.args.self.now c.requires.going c.in-Header.version c.in-Header.p c.in-Header.q
     c.in-Header.factor (subst HasForm c.in-Header.is c.requires.form))
-
-pub returns-in-Step-clause-took : goal.returns-in-Step-clause-took
-returns-in-Step-clause-took g c =
-    subst (λ read. IfOk c.take_step.result (Took c.args.self.now c.take_step.new.self (trace_text read)))
-    (sym c.in-Step.is) c.take_step.ensures.took
-
-pub returns-in-Step-clause-room : goal.returns-in-Step-clause-room
-returns-in-Step-clause-room g c few =
-    c.take_step.ensures.room (subst (λ read. jobs_in read ≤ c.args.self.now.spare) c.in-Step.is few)
-
-pub returns-in-Step-clause-spare : goal.returns-in-Step-clause-spare
-returns-in-Step-clause-spare g c =
-    subst (λ read. c.args.self.now.spare ≤ c.take_step.new.self.spare + jobs_in read) (sym c.in-Step.is)
-    c.take_step.ensures.spare
-
-pub returns-in-Step-clause-jobs : goal.returns-in-Step-clause-jobs
-returns-in-Step-clause-jobs g c =
-    subst (λ read. c.take_step.new.self.course.jobs ≤ c.args.self.now.course.jobs + jobs_in read) (sym c.in-Step.is)
-    c.take_step.ensures.jobs
 
 pub returns-in-Step-clause-paid : goal.returns-in-Step-clause-paid
 returns-in-Step-clause-paid g c = c.take_step.ensures.paid

@@ -93,18 +93,6 @@ returns-then-is_full-clause-jobs g c = omega (arith, c.waits_until.ensures.cours
 pub returns-then-is_full-clause-paid : goal.returns-then-is_full-clause-paid
 returns-then-is_full-clause-paid g c = c.waits_until.ensures.paid
 
-pub returns-in_err-make_room-clause-spare : goal.returns-in_err-make_room-clause-spare
-returns-in_err-make_room-clause-spare g c = omega
-    (arith, ap (λ (r : Reading). r.spare) c.waits_until.ensures.kept, c.make_room.ensures.grows)
-
-pub returns-in_err-make_room-clause-keep : goal.returns-in_err-make_room-clause-keep
-returns-in_err-make_room-clause-keep g c =
-    ap (λ (r : Reading). r.keep) c.make_room.ensures.same ∙ ap (λ (r : Reading). r.keep) c.waits_until.ensures.kept
-
-pub returns-in_err-make_room-clause-jobs : goal.returns-in_err-make_room-clause-jobs
-returns-in_err-make_room-clause-jobs g c = omega
-    (arith, ap (λ (r : Reading). r.course.jobs) c.make_room.ensures.same, c.waits_until.ensures.course.jobs)
-
 pub returns-clause-spare : goal.returns-clause-spare
 returns-clause-spare g c = omega (
   arith,
@@ -113,10 +101,6 @@ returns-clause-spare g c = omega (
   c.admit.ensures.spare,
 )
 
-pub returns-clause-keep : goal.returns-clause-keep
-returns-clause-keep g c = c.admit.ensures.keep ∙ ap (λ (r : Reading). r.keep) c.make_room.ensures.same
-    ∙ ap (λ (r : Reading). r.keep) c.waits_until.ensures.kept
-
 pub returns-clause-jobs : goal.returns-clause-jobs
 returns-clause-jobs g c = omega (
   arith,
@@ -124,10 +108,6 @@ returns-clause-jobs g c = omega (
   c.waits_until.ensures.course.jobs,
   c.admit.ensures.jobs,
 )
-
-pub admit-requires-clause-going : goal.admit-requires-clause-going
-admit-requires-clause-going g c = ap (λ (r : Reading). r.stage) c.make_room.ensures.same
-    ∙ ap (λ (r : Reading). r.stage) c.waits_until.ensures.kept ∙ c.requires.going
 
 pub admit-requires-clause-room : goal.admit-requires-clause-room
 admit-requires-clause-room g c = subst (λ (k : Kept). HasRoom k c.args.job)

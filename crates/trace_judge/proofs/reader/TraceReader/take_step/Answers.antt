@@ -1,8 +1,8 @@
-use Rattle.std.proofs.Common.{◌≤◌, ◌+◌, sym, subst, IfOk}
+use Rattle.std.proofs.Common.{sym, subst}
 use Rattle.dover_model.specs.Text.{text_of}
 use Rattle.line_text.specs.traces.Form.{HasForm}
 use Rattle.line_text.specs.declared.traces.lines.TraceLine.TheVariants.{Step}
-use Rattle.trace_judge.specs.Reads.{Took, releases_in}
+use Rattle.trace_judge.specs.Reads.{Took}
 use Rattle.trace_judge.proofs.Naming.{quiet_named}
 use Rattle.trace_judge.proofs.Taking.{followed_took}
 use Rattle.trace_judge.proofs.reader.TraceReader.take_step.Goals as goal
@@ -11,25 +11,6 @@ pub returns-in_default-clause-took : goal.returns-in_default-clause-took
 returns-in_default-clause-took g c = followed_took c.args.self.now c.follow.new.self c.args.event.now c.follow.result
     c.requires.going c.follow.ensures.followed
     (quiet_named c.args.event.now c.in_default.not-Release c.in_default.not-Complete c.requires.form)
-
-pub returns-in-Release-clause-took : goal.returns-in-Release-clause-took
-returns-in-Release-clause-took g c =
-    subst (λ e. IfOk c.take_release.result (Took c.args.self.now c.take_release.new.self (text_of e)))
-    (sym c.in-Release.is) c.take_release.ensures.took
-
-pub returns-in-Release-clause-room : goal.returns-in-Release-clause-room
-returns-in-Release-clause-room g c few =
-    c.take_release.ensures.room (subst (λ e. releases_in e ≤ c.args.self.now.spare) c.in-Release.is few)
-
-pub returns-in-Release-clause-spare : goal.returns-in-Release-clause-spare
-returns-in-Release-clause-spare g c =
-    subst (λ e. c.args.self.now.spare ≤ c.take_release.new.self.spare + releases_in e) (sym c.in-Release.is)
-    c.take_release.ensures.spare
-
-pub returns-in-Release-clause-jobs : goal.returns-in-Release-clause-jobs
-returns-in-Release-clause-jobs g c =
-    subst (λ e. c.take_release.new.self.course.jobs ≤ c.args.self.now.course.jobs + releases_in e)
-    (sym c.in-Release.is) c.take_release.ensures.jobs
 
 pub returns-in-Release-clause-paid : goal.returns-in-Release-clause-paid
 returns-in-Release-clause-paid g c = c.take_release.ensures.paid

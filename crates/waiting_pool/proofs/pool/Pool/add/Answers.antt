@@ -1,23 +1,17 @@
-use Rattle.std.proofs.Common.{◌≡◌, ◌+◌, ◌<◌, ◌≤◌, ◌^◌, ◌++◌, ◌∷◌, [], Some, None, sym, ap, ◌∙◌, subst, length, set}
-use Rattle.std.proofs.Common.{◌*◌, get_or, arith}
+use Rattle.std.proofs.Common.{◌≡◌, ◌+◌, ◌<◌, ◌≤◌, ◌^◌, ◌++◌, ◌∷◌, [], Some, None, sym, ap, ◌∙◌, subst, length, set, ◌*◌}
+use Rattle.std.proofs.Common.{get_or, arith}
 use Rattle.place_heap.specs.Items.{ItemFacts}
 use Rattle.place_heap.specs.Orders.{due_item, latest_item}
 use Rattle.dover_model.specs.Entries.{entry_of}
 use Rattle.waiting_pool.specs.Reordered.{IsReordered}
 use Rattle.waiting_pool.specs.Pools.{Pooled, IsPool, item_by_density, jobs_at, orders_of}
 use Rattle.waiting_pool.proofs.Places.{same_length, jobs_in}
-use Rattle.waiting_pool.proofs.Pooling.{add_free, add_inside, add_kept, add_due_ready}
-use Rattle.waiting_pool.proofs.Pooling.{add_latest_ready, add_due_free, add_latest_free}
-use Rattle.waiting_pool.proofs.Pooling.{add_due_count, add_latest_count, add_dense_ready, add_dense_free}
-use Rattle.waiting_pool.proofs.Pooling.{add_dense_count}
+use Rattle.waiting_pool.proofs.Pooling.{add_free, add_inside, add_kept, add_due_ready, add_latest_ready, add_due_free}
+use Rattle.waiting_pool.proofs.Pooling.{add_latest_free, add_due_count, add_latest_count, add_dense_ready}
+use Rattle.waiting_pool.proofs.Pooling.{add_dense_free, add_dense_count}
 use Rattle.waiting_pool.proofs.pool.Pool.add.Goals as goal
 use Rattle.waiting_pool.proofs.pool.Pool.add.Goals.{After-next_place-place}
 use Rattle.waiting_pool.proofs.pool.Pool.add.Given.{Over}
-
-pub next_place-place-requires-clause-room : goal.next_place-place-requires-clause-room
-next_place-place-requires-clause-room g c =
-    let room = subst (λ (q : Pooled). length q.tasks < q.room) (sym c.self.view_is) c.requires.room in
-    omega (arith, room, c.self.invariant.1.slots_fit)
 
 pub next_place-place-requires-clause-count : goal.next_place-place-requires-clause-count
 next_place-place-requires-clause-count g c = c.self.invariant.0.count
@@ -131,11 +125,6 @@ invariant_of-self g c =
         );
       },
     )
-
-pub returns-clause-kept : goal.returns-clause-kept
-returns-clause-kept g c =
-    ap (λ (q : Pooled). record { version = q.version; tasks = jobs_at c.put_at.new.slots.items; room = q.room })
-    c.self.view_is
 
 pub returns-clause-more : goal.returns-clause-more
 returns-clause-more g c =

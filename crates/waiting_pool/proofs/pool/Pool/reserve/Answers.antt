@@ -4,10 +4,6 @@ use Rattle.waiting_pool.proofs.pool.Pool.reserve.Goals as goal
 pub reserve_places-requires-clause-opened : goal.reserve_places-requires-clause-opened
 reserve_places-requires-clause-opened c = omega (arith, c.if-places-self.false, c.self.invariant.1.opened)
 
-pub reserve_places-requires-clause-free : goal.reserve_places-requires-clause-free
-reserve_places-requires-clause-free c =
-    omega (arith, c.if-places-self.false, c.self.invariant.1.opened, c.self.invariant.0.count)
-
 pub invariant_of-self : goal.invariant_of-self
 invariant_of-self c =
     c.reserve_places.ensures.keeps c.self.inside.room c.self.invariant.0 c.self.invariant.1

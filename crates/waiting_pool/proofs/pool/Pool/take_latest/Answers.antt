@@ -17,10 +17,6 @@ take_at-requires-clause-some g c =
 pub take_at-requires-clause-pool : goal.take_at-requires-clause-pool
 take_at-requires-clause-pool g c = c.self.invariant.0
 
-pub take_at-requires-clause-room : goal.take_at-requires-clause-room
-take_at-requires-clause-room g c =
-    omega (arith, c.self.invariant.1.opened, c.self.invariant.1.free_fit, c.self.inside.slots.ok.0)
-
 pub invariant_of-self : goal.invariant_of-self
 invariant_of-self g c = (
   c.take_at.ensures.pool,

@@ -16,10 +16,6 @@ answer-requires-clause-ratio g c = (c.in-Ok.ensures.tasks _ _ c.requires.ready.2
 pub answer-requires-clause-declarable : goal.answer-requires-clause-declarable
 answer-requires-clause-declarable g c = (c.in-Ok.ensures.tasks _ _ c.requires.ready.2.reads).declarable
 
-pub answer-requires-clause-are : goal.answer-requires-clause-are
-answer-requires-clause-are g c = let at = c.requires.ready.2 in
-    rw at.asks (c.in-Ok.ensures.tasks (until_of c.requires.ready.0.question) c.requires.ready.1 at.reads).are
-
 pub answer-requires-clause-known : goal.answer-requires-clause-known
 answer-requires-clause-known g c = rw c.requires.ready.2.asks c.requires.ready.2.known
 
@@ -61,16 +57,8 @@ returns-in-Ok-clause-cause g c = c.answer.ensures.cause
 pub returns-in-Ok-clause-stops : goal.returns-in-Ok-clause-stops
 returns-in-Ok-clause-stops g c = c.answer.ensures.stops
 
-pub returns-in-Ok-put_fault-clause-cause : goal.returns-in-Ok-put_fault-clause-cause
-returns-in-Ok-put_fault-clause-cause g c =
-    (c.in-Ok-put_fault.ensures.cause.ok, c.in-Ok-put_fault.ensures.cause.other)
-
 pub returns-in-Ok-put_fault-clause-stops : goal.returns-in-Ok-put_fault-clause-stops
 returns-in-Ok-put_fault-clause-stops g c = c.in-Ok-put_fault.ensures.stops.well
-
-pub returns-in-Err-put_fault-clause-cause : goal.returns-in-Err-put_fault-clause-cause
-returns-in-Err-put_fault-clause-cause g c =
-    (c.in-Err-put_fault.ensures.cause.failed, c.in-Err-put_fault.ensures.cause.other)
 
 pub returns-in-Err-put_fault-clause-stops : goal.returns-in-Err-put_fault-clause-stops
 returns-in-Err-put_fault-clause-stops g c = c.in-Err-put_fault.ensures.stops.stopped

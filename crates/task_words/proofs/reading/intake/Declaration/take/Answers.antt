@@ -1,10 +1,8 @@
-use Rattle.std.proofs.Common.{refl, sym, subst, Some, ◌∙◌, ap, option_map}
+use Rattle.std.proofs.Common.{refl, sym, subst, Some, ◌∙◌, ap}
 use Rattle.task_words.specs.reading.Faults.{NamesOther}
 use Rattle.task_words.specs.declared.reading.lines.TaskLine.TheVariants.{Task}
 use Rattle.task_words.proofs.reading.Taking.{took, named, not_taken}
-use Rattle.dover_model.specs.Feed.{NotAdmitted}
 use Rattle.event_feed.specs.Kept.{cause_of_fault}
-use Rattle.task_words.specs.tasks.Limits.{task_refusal}
 use Rattle.task_words.proofs.reading.intake.Declaration.take.Goals as goal
 
 pub returns-in-Ok-clause-takes : goal.returns-in-Ok-clause-takes
@@ -23,7 +21,3 @@ pub returns-in-Err-clause-takes : goal.returns-in-Err-clause-takes
 returns-in-Err-clause-takes c = λ rules tasks keeps. not_taken c.args.until c.args.task.now rules tasks c.args.self.now
     c.args.self.now keeps c.if-task-eq0.false c.last_release-release.result c.last_release-release.ensures.is
     c.in-Err.refused (c.in-Err.ensures.refusal _ keeps.tested) ∙ ap (λ f. Some (cause_of_fault f)) (sym c.of.ensures)
-
-pub returns-then-task-eq0-clause-takes : goal.returns-then-task-eq0-clause-takes
-returns-then-task-eq0-clause-takes c = λ rules tasks keeps. ap (λ n. option_map NotAdmitted
-    (task_refusal c.args.until rules.ratio tasks (record c.args.task.now { period = n }))) c.if-task-eq0.true

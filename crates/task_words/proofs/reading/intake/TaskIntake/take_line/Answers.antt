@@ -3,7 +3,7 @@ use Rattle.task_words.specs.reading.Account.{account_of_lines}
 use Rattle.task_words.specs.reading.Keeping.{StandsAt}
 use Rattle.task_words.specs.reading.Faults.{NamesAt}
 use Rattle.task_words.proofs.reading.Taking.{keeps_counted, line_taken, keeps_more, named_before, line_many, line_bad}
-use Rattle.event_feed.specs.declared.faults.Cause.TheVariants.{Line, Lines}
+use Rattle.event_feed.specs.declared.faults.Cause.TheVariants.{Line}
 use Rattle.task_words.specs.declared.reading.intake.Progress.TheVariants.{Open, Refused}
 use Rattle.task_words.proofs.reading.intake.TaskIntake.take_line.Goals as goal
 
@@ -37,10 +37,6 @@ pub returns-then-self-gt-MOST_LINES-clause-stands : goal.returns-then-self-gt-MO
 returns-then-self-gt-MOST_LINES-clause-stands c = λ until ls keeps.
     let mid = record c.args.self.now { lines = c.args.self.now.lines + 1 } in
     line_many until c.args.self.now mid ls c.args.line.now keeps refl c.if-self-gt-MOST_LINES.true
-
-pub returns-then-self-gt-MOST_LINES-clause-keeps : goal.returns-then-self-gt-MOST_LINES-clause-keeps
-returns-then-self-gt-MOST_LINES-clause-keeps c = λ until ls keeps clash.
-    absurd (let it : Refused Lines ≡ Open = clash in cc)
 
 pub returns-in-Err-clause-stands : goal.returns-in-Err-clause-stands
 returns-in-Err-clause-stands c = λ until ls keeps.

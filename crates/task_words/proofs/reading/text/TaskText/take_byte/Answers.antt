@@ -1,10 +1,7 @@
 use Rattle.std.proofs.Common.{◌≡◌, ◌++◌, ◌∷◌, [], ℕ, List, length, false, cond, ap, sym, ◌∙◌, subst, le-ltb}
-use Rattle.line_text.specs.Cutting.{Cutting, StandsFor, with_byte, is_over}
-use Rattle.line_text.specs.declared.cutting.ByteEffect.TheVariants.{More, Line, TooLong}
+use Rattle.line_text.specs.Cutting.{Cutting, StandsFor, with_byte}
+use Rattle.line_text.specs.declared.cutting.ByteEffect.TheVariants.{More, Line}
 use Rattle.dover_model.specs.Lines.{lines_of, rest_of, is_too_long}
-use Rattle.task_words.specs.reading.Account.{account_of_lines}
-use Rattle.task_words.specs.reading.Keeping.{Keeps, StandsAt}
-use Rattle.task_words.specs.declared.reading.intake.Progress.TheVariants.{Open}
 use Rattle.task_words.proofs.reading.Taking.{text_at, text_names, text_stands}
 use Rattle.task_words.proofs.reading.text.TaskText.take_byte.Goals as goal
 
@@ -16,41 +13,12 @@ with_it lines x byte short stands = subst (StandsFor lines) (ap (λ b. cond b x 
 pub line-requires : goal.line-requires
 line-requires c = λ more. let clash : Line ≡ More = sym c.in-Line.is ∙ c.push.ensures.last ∙ more in cc
 
-pub line-requires-in-TooLong : goal.line-requires-in-TooLong
-line-requires-in-TooLong c = λ more.
-    let clash : TooLong ≡ More = sym c.in-TooLong.is ∙ c.push.ensures.last ∙ more in cc
-
-pub returns-in-More-clause-at : goal.returns-in-More-clause-at
-returns-in-More-clause-at c = λ until x stands.
-    subst (λ ls. StandsAt until Open c.args.self.now.intake (account_of_lines until ls))
-    (sym (c.in-More.ensures.cut x stands.cut stands.short).2) (stands.keeps.stands, stands.keeps.keeps)
-
-pub returns-in-More-clause-stands : goal.returns-in-More-clause-stands
-returns-in-More-clause-stands c = λ until x stands _.
-    let cut : StandsFor c.push.new.self (x ++ c.args.byte ∷ []) =
-    with_it c.push.new.self x c.args.byte stands.short (c.push.ensures.stands x stands.cut) in
-    record {
-      cut = cut;
-      short = sym cut.over ∙ ap is_over (sym c.push.ensures.last ∙ c.in-More.is);
-      keeps = subst (Keeps until c.args.self.now.intake)
-          (sym (c.in-More.ensures.cut x stands.cut stands.short).2) stands.keeps;
-    }
-
 pub returns-in-Line-clause-at : goal.returns-in-Line-clause-at
 returns-in-Line-clause-at c = λ until x stands.
     text_at until x (x ++ c.args.byte ∷ []) c.line.result.now
     ((c.in-Line.ensures.cut x stands.cut stands.short).2 ∙ ap (λ l. lines_of x ++ l ∷ []) (sym c.line.ensures))
     c.take_line.result c.take_line.new.self
     (c.take_line.ensures.stands until (lines_of x) stands.keeps)
-
-pub returns-in-Line-clause-stands : goal.returns-in-Line-clause-stands
-returns-in-Line-clause-stands c = λ until x stands open_still.
-    text_stands until x (x ++ c.args.byte ∷ []) c.line.result.now
-    ((c.in-Line.ensures.cut x stands.cut stands.short).2 ∙ ap (λ l. lines_of x ++ l ∷ []) (sym c.line.ensures))
-    (record { lines = c.push.new.self; intake = c.take_line.new.self })
-    (with_it c.push.new.self x c.args.byte stands.short (c.push.ensures.stands x stands.cut))
-    (λ _. ap is_too_long (c.in-Line.ensures.cut x stands.cut stands.short).1)
-    (c.take_line.ensures.keeps until (lines_of x) stands.keeps open_still)
 
 pub returns-in-Line-clause-names : goal.returns-in-Line-clause-names
 returns-in-Line-clause-names c = λ until x stands.
