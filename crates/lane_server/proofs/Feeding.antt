@@ -1,5 +1,5 @@
 -- What bytes of a feed hand to its lane, and what is left to give then.
-use Rattle.std.proofs.Common.{Bool, ◌≡◌, ℕ, List, [], ◌∷◌, ◌++◌, sym, ap, ◌∙◌, subst, refl, true, false, cond, Some}
+use Rattle.std.proofs.Common.{◌≡◌, ℕ, List, [], ◌∷◌, ◌++◌, sym, ap, ◌∙◌, subst, refl, true, false, cond, Some}
 use Rattle.std.proofs.Common.{Result, Ok, Err, append-nil, OnOk, OnErr, None, length, option_map, ◌≤◌, ◌+◌, Option}
 use Rattle.std.proofs.Common.{arith, length-append}
 use Rattle.std.proofs.lemmas.List.Elements.{filter_map-append}

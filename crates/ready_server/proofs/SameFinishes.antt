@@ -1,9 +1,9 @@
 -- A server serves the same jobs with the same finishes, in whatever order these stand.
-use Rattle.std.proofs.Common.{◌≡◌, ℕ, List, sym, ap, ◌∙◌, subst, Bool, true, false, Option, nat_le, ◌&&◌}
+use Rattle.std.proofs.Common.{◌≡◌, ℕ, List, sym, ap, ◌∙◌, subst, Bool, true, false, nat_le, ◌&&◌}
 use Rattle.dover_model.specs.declared.events.Event.{Event}
 use Rattle.dover_model.specs.declared.horizon.Horizon.{Horizon}
 use Rattle.dover_model.specs.declared.horizon.Horizon.TheVariants.{Mark, End}
-use Rattle.dover_model.specs.Common.{Finish, AreDueAlike, Instance, finishing, State, state_at, printed, printed_of}
+use Rattle.dover_model.specs.Common.{Finish, AreDueAlike, Instance, finishing, State, printed, printed_of}
 use Rattle.dover_model.specs.Common.{waits_for_mark, last_of, due_by, settled, HasPrinted, HaveTheSame}
 use Rattle.dover_model.proofs.finishes.FinishOrders.{same_alike, same_open, settled_alike, run_alike, has_printed_alike}
 use Rattle.dover_model.proofs.finishes.FinishOrders.{whole_alike}

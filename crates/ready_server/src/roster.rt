@@ -125,8 +125,7 @@ impl Roster {
             return Ok(());
         }
         let count = self.jobs.len();
-        self.jobs
-            .reserve(count.max(jobs.saturating_sub(count)))?;
+        self.jobs.reserve(count.max(jobs.saturating_sub(count)))?;
         Ok(())
     }
 

@@ -105,7 +105,8 @@ module _ (h : Head) (tasks : List Task) (ls : List (List ℕ)) (read : HasRead h
 
 -- the run depends on the server and on what was handed in
 pub same_run : (r new : Resuming) (h : Head) (tasks : List Task) (mark : ℕ) → new.server ≡ r.server
-    → new.roster ≡ r.roster → new.handed ≡ r.handed → new.last ≡ r.last → HasRunTowards r h tasks mark → HasRunTowards new h tasks mark
+    → new.roster ≡ r.roster → new.handed ≡ r.handed → new.last ≡ r.last → HasRunTowards r h tasks mark
+    → HasRunTowards new h tasks mark
 same_run r new h tasks mark server roster handed last run = record {
   items = run.items;
   counted = record { count = handed ∙ run.counted.count; last = last ∙ run.counted.last };

@@ -304,8 +304,8 @@ module _ (r : Resuming) (h : Head) (tasks : List Task) (about : IsAbout r h task
                     about.numbered valid_J one.finish one.stored right,
               );
               known = near.near.known;
-              rests = subst (λ K. Rests new.server new.roster K at) (sym (finish_run h tasks near.items at near.near.handed
-                  near.near.no_later about.numbered valid_J one.finish one.stored right)) rests;
+              rests = subst (λ K. Rests new.server new.roster K at) (sym (finish_run h tasks near.items at
+                  near.near.handed near.near.no_later about.numbered valid_J one.finish one.stored right)) rests;
               to_come = others_to_come h tasks near.items at near.near.handed near.near.no_later about.numbered
                   valid_J one.finish one.stored right near.near.near;
             };

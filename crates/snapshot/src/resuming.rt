@@ -8,7 +8,8 @@ ghost use Rattle.dover_model.specs.Common.{Instance, last_tick, settled, MayFoll
 ghost use Rattle.dover_model.specs.declared.horizon.Horizon.TheVariants.{Mark};
 ghost use Rattle.snapshot.specs.Snapshot as model;
 ghost use Rattle.snapshot.specs.Kept.{stance_of, is_done_role, is_early, early_behind, next_early, IsAbout, HasRun};
-ghost use Rattle.snapshot.specs.Kept.{HasPlace, HasRunTowards, ComesNear, MayAdmit, IsAt, AreAt, IsReading, Begins, Answers};
+ghost use Rattle.snapshot.specs.Kept.{HasPlace, HasRunTowards, ComesNear, MayAdmit, IsAt, AreAt, IsReading, Begins};
+ghost use Rattle.snapshot.specs.Kept.{Answers};
 ghost use Rattle.snapshot.specs.Reading.{reading_of};
 ghost use Rattle.snapshot.specs.Spending.{jobs_read, jobs_kept, HasSpentOn};
 ghost use Rattle.ready_server.specs.Roster.{job_at, runner_at};
@@ -402,11 +403,7 @@ impl Resuming {
             return Err(bad);
         }
         self.run_to(self.last, self.head.mark, comparisons);
-        if !are_at(
-            &self.roster,
-            self.head.mark,
-            self.stances.as_slice(),
-        ) {
+        if !are_at(&self.roster, self.head.mark, self.stances.as_slice()) {
             return Err(bad);
         }
         if !self.has_lines() {

@@ -303,7 +303,8 @@ module _ (a : Asked) (x : List ℕ) (T : Call → List ℕ → Type 0) (at : IsP
     )
 
   -- a part
-  pub past_gives : (E : Type 0) → E → (f : Feed) (k : Kept) (now : ℕ) (rest : List (List ℕ)) (part : List ℕ) (given : Bool)
+  pub past_gives : (E : Type 0) → E → (f : Feed) (k : Kept) (now : ℕ) (rest : List (List ℕ)) (part : List ℕ)
+      (given : Bool)
       → GivesBy (λ H parts. serve.IsListing past_call f k now H parts)
       (λ H. serve.IsListed past_call f k now H) past_bytes rest part given
       → GivesBy (λ y parts. E × IsPast a.start y (λ c H. serve.IsListing c f k now H parts))

@@ -1,10 +1,10 @@
 -- A roster that is kept from the lines that are given for a feed lists its jobs.
-use Rattle.std.proofs.Common.{◌≡◌, ◌<◌, ◌≤◌, ◌-◌, ◌^◌, ℕ, List, [], ◌∷◌, ◌++◌, length, map, max, take, drop, codes, decimal, refl, sym}
-use Rattle.std.proofs.Common.{ap, ◌∙◌, subst, Option, Some, None, true, false, filter_map, option_and_then, arith}
+use Rattle.std.proofs.Common.{◌≡◌, ◌<◌, ◌≤◌, ◌-◌, ◌^◌, ℕ, List, [], ◌∷◌, ◌++◌, length, map, max, take, drop, codes}
+use Rattle.std.proofs.Common.{decimal, refl, sym, ap, ◌∙◌, subst, Option, Some, None, true, option_and_then, arith}
 use Rattle.std.proofs.Common.{take-append-drop, length-append, append_assoc}
 use Rattle.std.proofs.lemmas.List.{append-nil, map-append}
 use Rattle.std.proofs.lemmas.List.Elements.{filter_map-append}
-use Rattle.std.specs.List.{AllByRecursion, cons_option}
+use Rattle.std.specs.List.{cons_option}
 use Rattle.std.specs.Option.{option_or}
 use Rattle.dover_model.specs.declared.events.Event.{Event}
 use Rattle.dover_model.specs.declared.events.Event.TheVariants.{Release, Run, Preempt, Take, Complete, Abandon, End}
@@ -12,7 +12,7 @@ use Rattle.dover_model.specs.declared.horizon.Horizon.TheVariants.{Mark}
 use Rattle.dover_model.specs.JobFacts.{JobFacts}
 use Rattle.dover_model.specs.Common.{AreShort, job_numbers, step_numbers, text_of, with_numbers, Session, instance_of}
 use Rattle.dover_model.specs.Common.{admitted_jobs}
-use Rattle.dover_model.specs.Common.{IsValid, settled, printed, Begins, due_lines, account, is_open, texts_among, Placed}
+use Rattle.dover_model.specs.Common.{IsValid, settled, printed, Begins, due_lines, account, is_open, Placed}
 use Rattle.dover_model.specs.Common.{places_of, put_in, Printed, Refuses, text_of_line}
 use Rattle.dover_model.proofs.sessions.Accounts.{account_kept}
 use Rattle.dover_model.proofs.settled.Horizons.{due_begins}
@@ -147,12 +147,11 @@ module _ (k : Kept) (y : List ℕ) (goes : is_open (account y) ≡ true) (given 
           arith,
           room,
           ap {B = ℕ} (λ (o : Option Session). elim o [ None ↦ 0 | Some T ↦ length (admitted_jobs T.items) ]) there,
-          few_jobs (instance_of S) (valid y goes S there) (account y).mark (steps_in given ++ Release n job ∷ [])
-              (
-                steps_in more,
-                begins S there ∙ ap (λ es. steps_in given ++ es) front
-                    ∙ sym (append_assoc (steps_in given) (Release n job ∷ []) (steps_in more)),
-              ),
+          few_jobs (instance_of S) (valid y goes S there) (account y).mark (steps_in given ++ Release n job ∷ []) (
+            steps_in more,
+            begins S there ∙ ap (λ es. steps_in given ++ es) front
+                ∙ sym (append_assoc (steps_in given) (Release n job ∷ []) (steps_in more)),
+          ),
           ap (λ (p : Roll). length p.jobs) (roll_more (steps_in given) (Release n job)),
           length-append (roll_of (steps_in given)).jobs (released n job ∷ []),
           ap (λ (p : Roll). length p.jobs) it,

@@ -1,7 +1,7 @@
 -- A feed that is served, as a talk.
-use Rattle.std.proofs.Common.{◌≡◌, ◌<◌, ◌≤◌, ◌^◌, ◌-◌, ℕ, suc, List, [], ◌∷◌, ◌++◌, length, map, take, drop, refl, sym, ap, ◌∙◌}
-use Rattle.std.proofs.Common.{arith, append_assoc, append-nil, length-append, Bool, true, false, cond, inl, inr, Result}
-use Rattle.std.proofs.Common.{Ok, Err, Option, subst, OnOk, take-append-drop}
+use Rattle.std.proofs.Common.{◌≡◌, ◌<◌, ◌≤◌, ◌^◌, ◌-◌, ℕ, suc, List, [], ◌∷◌, ◌++◌, length, map, take, drop, refl, sym}
+use Rattle.std.proofs.Common.{ap, ◌∙◌, arith, append_assoc, append-nil, length-append, Bool, true, false, cond}
+use Rattle.std.proofs.Common.{inl, inr, Result, Ok, Err, Option, subst, OnOk, take-append-drop}
 use Rattle.std.proofs.lemmas.List.{length-map}
 use Rattle.std.proofs.lemmas.List.Folds.{flat_map-map}
 use Rattle.dover_model.specs.declared.Memory.{Memory as Lacking}
@@ -178,7 +178,8 @@ module _ (c : Call) where
                 giving = base.2.2;
                 given = due_lines (account (c.feed ++ x));
                 due = ap (λ z. due_lines (account z)) (joins x (take n piece)) ∙ it.2.1;
-                room = λ line more is. subst (λ z. admitted_in (account z) ≤ l.room) (sym (joins x (take n piece))) room;
+                room = λ line more is.
+                    subst (λ z. admitted_in (account z) ≤ l.room) (sym (joins x (take n piece))) room;
                 lists = λ goes. alike ∙ roll;
               },
             ),

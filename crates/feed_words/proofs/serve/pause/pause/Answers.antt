@@ -14,8 +14,8 @@ new-requires g c = (
 
 pub returns-clause-text : goal.returns-clause-text
 returns-clause-text g c = λ x rests may listed. c.new.ensures x
-    (taken_to c.args.pausing.serving.feed c.args.pausing.roster x rests may listed c.into_lane-lane.result c.into_lane-lane.ensures
-    c.in-Some.server
+    (taken_to c.args.pausing.serving.feed c.args.pausing.roster x rests may listed c.into_lane-lane.result
+    c.into_lane-lane.ensures c.in-Some.server
     (sym c.into_server.ensures ∙ c.in-Some.is) c.in-Err.fault c.in-Err.ensures.answer
     c.mark-mark.result c.mark-mark.ensures)
 

@@ -1,6 +1,6 @@
-use Rattle.std.proofs.Common.{List, ℕ, subst, arith}
+use Rattle.std.proofs.Common.{subst, arith}
 use Rattle.dover_model.specs.Feed.{account_of_lines}
-use Rattle.lane_server.specs.Lane.{Owes, Stands}
+use Rattle.lane_server.specs.Lane.{Owes}
 use Rattle.lane_server.proofs.Feeding.{owes_jobs, owes_nothing}
 use Rattle.lane_server.proofs.lane.Lane.most_jobs.Goals as goal
 

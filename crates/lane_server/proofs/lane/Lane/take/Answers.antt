@@ -1,4 +1,4 @@
-use Rattle.std.proofs.Common.{◌≡◌, IfSome, inl, inr, refl, sym, ◌∙◌, subst, OnOk}
+use Rattle.std.proofs.Common.{inl, inr, refl, sym, subst, OnOk}
 use Rattle.dover_model.proofs.lists.Members.{err_any}
 use Rattle.event_feed.specs.Answers.{IsFed, counted}
 use Rattle.lane_server.specs.Lane.{TurnsTo}

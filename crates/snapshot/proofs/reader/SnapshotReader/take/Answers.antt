@@ -20,5 +20,6 @@ returns-clause-gives c = λ ls it.
     (record {
       is = is_snapshot ready.0 ready.1 ls ready.2;
       each = λ F may text. resumes_feed ready.0 ready.1 ls ready.2 F may text c.in-Some.resuming.server
-          c.in-Some.resuming.roster c.in-Some.resuming.intake c.in-Some.resuming.head.mark (ap (λ (x : Head). x.mark) ready.3) ready.4;
+          c.in-Some.resuming.roster c.in-Some.resuming.intake c.in-Some.resuming.head.mark
+          (ap (λ (x : Head). x.mark) ready.3) ready.4;
     })

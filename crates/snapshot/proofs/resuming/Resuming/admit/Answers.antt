@@ -59,8 +59,8 @@ read-requires-clause-few g c =
     let run = run_there r.0 r.1 c.args.self.now c.run_to.new.self c.make_room-2.new.self c.make_room.new.self
     c.release.result c.args.job.release r.2 r.3 c.make_room-2.ensures.serves c.make_room.ensures.same
     c.run_to.ensures.run c.release.ensures.is in
-    few_takes c.run_to.new.self.server c.run_to.new.self.roster (so_far r.0 r.1 c.args.job.release c.run_to.new.self run)
-    c.args.job.release _
+    few_takes c.run_to.new.self.server c.run_to.new.self.roster
+    (so_far r.0 r.1 c.args.job.release c.run_to.new.self run) c.args.job.release _
     (roster_rests c.run_to.new.self.server c.run_to.new.self.roster _ c.args.job.release run.served.rests)
 
 pub returns-clause-run : goal.returns-clause-run

@@ -26,7 +26,8 @@ returns c =
         run = record {
           items = [];
           counted = record { count = refl; last = refl };
-          served = first_served c.in-Ok.server c.new-2.result (head_in c.in-Some.head) c.in-Ok.ensures.serves c.new-2.ensures;
+          served = first_served c.in-Ok.server c.new-2.result (head_in c.in-Some.head) c.in-Ok.ensures.serves
+              c.new-2.ensures;
         };
       },
     )

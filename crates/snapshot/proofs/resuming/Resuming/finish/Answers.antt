@@ -67,7 +67,8 @@ hand_ticks-requires g c =
 
 pub returns-clause-answers : goal.returns-clause-answers
 returns-clause-answers g c = λ ls (h, tasks, read, it).
-    let last = last_same c.args.line.now c.as_slice.result.now c.as_slice.ensures (sym c.ne.ensures ∙ c.if-ne.false) in (
+    let last = last_same c.args.line.now c.as_slice.result.now c.as_slice.ensures
+    (sym c.ne.ensures ∙ c.if-ne.false) in (
       h,
       tasks,
       is_whole h tasks ls read c.args.self.now it c.args.line.now c.requires.all c.run_to.new.self

@@ -88,8 +88,9 @@ returns-clause-room g c = λ room.
     let right = c.in-Some-finish.ensures.finishes _ c.requires.near.3.near.rests.rests in
     c.settle.ensures.room (
       c.in-Some-finish.ensures.room room.0,
-      line_left c.args.self.now.roster c.read.new.self c.in-Some-finish.event (is_completion c.args.at c.in-Some.number c.in-Some-finish.event right.2)
-          c.read.ensures.roll c.read.ensures.room room.1,
+      line_left c.args.self.now.roster c.read.new.self c.in-Some-finish.event
+          (is_completion c.args.at c.in-Some.number c.in-Some-finish.event right.2) c.read.ensures.roll
+          c.read.ensures.room room.1,
     )
 
 pub read-requires-clause-few : goal.read-requires-clause-few

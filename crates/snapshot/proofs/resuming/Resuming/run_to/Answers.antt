@@ -28,8 +28,8 @@ turn_to-requires-clause-run g c =
 pub returns-then-may_finish_early-clause-run : goal.returns-then-may_finish_early-clause-run
 returns-then-may_finish_early-clause-run g c = λ h tasks about run. c.turn_to.ensures.run h tasks
     (same_about c.args.self.now _ h tasks refl refl about)
-    (settled_there c.args.self.now h tasks about c.args.from run c.settle.new.server c.settle.new.roster c.settle.ensures.rests
-    (omega (arith, c.requires.low, c.requires.known)))
+    (settled_there c.args.self.now h tasks about c.args.from run c.settle.new.server c.settle.new.roster
+    c.settle.ensures.rests (omega (arith, c.requires.low, c.requires.known)))
 
 pub returns-then-may_finish_early-clause-paid : goal.returns-then-may_finish_early-clause-paid
 returns-then-may_finish_early-clause-paid g c = λ start paid. c.turn_to.ensures.paid start

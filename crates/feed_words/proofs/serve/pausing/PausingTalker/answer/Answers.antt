@@ -21,7 +21,8 @@ returns-then-is_paused-clause-answers g c = λ a x at over.
     let may = (c.is_paused.ensures (a.feed ++ x) at.ready.rests).0 c.if-is_paused.true in
     answers_with (serve_talk Pause a.feed) x c.args.ended Done (snapshot (a.feed ++ x)) _ _ _ tt
     (paused a x c.args.ended over may) c.put_lines-put.result
-    (rw (c.requires.empty, c.pause-paused.ensures.text (a.feed ++ x) at.ready.rests may (at.lists may.going_on)) at c.put_lines-put.ensures.text)
+    (rw (c.requires.empty, c.pause-paused.ensures.text (a.feed ++ x) at.ready.rests may (at.lists may.going_on)) at
+    c.put_lines-put.ensures.text)
     c.answer_with.result c.answer_with.ensures.ok c.answer_with.ensures.err
 
 pub returns-then-is_paused-clause-spent : goal.returns-then-is_paused-clause-spent

@@ -1,4 +1,4 @@
-use Rattle.std.proofs.Common.{◌≡◌, ◌≤◌, ◌++◌, ◌∷◌, [], ap, sym, ◌∙◌, map, refl, subst, append_assoc, append-nil}
+use Rattle.std.proofs.Common.{◌≤◌, ◌++◌, ◌∷◌, [], ap, sym, ◌∙◌, map, refl, subst, append_assoc, append-nil}
 use Rattle.dover_model.specs.Common.{account, lines_of}
 use Rattle.event_feed.specs.Answers.{admitted_in}
 use Rattle.event_feed.specs.DueLines.{out_text, HasNumerals}
@@ -15,14 +15,16 @@ pub read_into-requires-clause-few : goal.read_into-requires-clause-few
 read_into-requires-clause-few g c = λ on.
     let (a, x, rest, at) = c.requires in
     let given = c.in-Some.ensures.gives (a.feed ++ x) at.giving.left at.giving.stands in
-    let goes = sym ((rw c.lane.ensures at c.goes_on-goes_on.ensures) (lines_of (a.feed ++ x)) given.0 given.2.lane) ∙ on in
+    let goes =
+    sym ((rw c.lane.ensures at c.goes_on-goes_on.ensures) (lines_of (a.feed ++ x)) given.0 given.2.lane) ∙ on in
     few_listed c.args.self.now.roster (a.feed ++ x) goes at.given at.giving.left at.due (at.lists goes)
 
 pub read_into-requires-clause-room : goal.read_into-requires-clause-room
 read_into-requires-clause-room g c n job on is =
     let (a, x, rest, at) = c.requires in
     let given = c.in-Some.ensures.gives (a.feed ++ x) at.giving.left at.giving.stands in
-    let goes = sym ((rw c.lane.ensures at c.goes_on-goes_on.ensures) (lines_of (a.feed ++ x)) given.0 given.2.lane) ∙ on in
+    let goes =
+    sym ((rw c.lane.ensures at c.goes_on-goes_on.ensures) (lines_of (a.feed ++ x)) given.0 given.2.lane) ∙ on in
     room_listed c.args.self.now.roster (a.feed ++ x) goes at.given at.giving.left at.due (at.lists goes)
     (at.room _ _ given.1) n job given.0 (given.1 ∙ ap (λ o. out_text o ∷ given.0) is) (subst HasNumerals is given.3)
 
