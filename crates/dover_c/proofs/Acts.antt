@@ -22,9 +22,9 @@ use Rattle.dover_engine.proofs.LifeLaws as life
 use Rattle.dover_c.specs.declared.Admitted.{Admitted}
 use Rattle.dover_c.specs.declared.Decided.{Decided}
 use Rattle.dover_c.specs.declared.slot.Slot.{Slot}
-use Rattle.dover_c.specs.Codes.{mark_code, numbers_of, IsStepOf, CallsOn, Calls, Steps, StepAnswers}
+use Rattle.dover_c.specs.Codes.{mark_code, numbers_of, IsStepOf, CallsOn, Calls, Steps, StepAnswers, shown}
 use Rattle.dover_c.specs.Program.{Act, Admit, Done, Step, Finish, Ask, Drop, Does, DoesAll, told, finishes_told}
-use Rattle.dover_c.specs.Program.{is_decision, answers, given, shown}
+use Rattle.dover_c.specs.Program.{is_decision, answers, given}
 
 -- numbers that a test tells apart
 pub apart : {A : Type 0} (m n : ℕ) → (m == n) ≡ false → m ≡ n → A
@@ -32,13 +32,9 @@ apart m n differ is = never (sym differ ∙ eq-eqb m n is)
 
 -- ---- decisions in numbers
 
-shown_is : (d : Decision) → numbers_of (Some d) ≡ shown (event_of d)
-shown_is (Release n job) = refl
-shown_is d = refl
-
 pub shown_event : (answer : Option Decision) (e : Event) → event_in answer ≡ Some e → numbers_of answer ≡ shown e
 shown_event None e is = none_is_some is
-shown_event (Some d) e is = shown_is d ∙ ap shown (some_same (event_of d) e is)
+shown_event (Some d) e is = ap shown (some_same (event_of d) e is)
 
 -- what is given of an answer
 pub given_of : (answer : Option Decision) → filter is_decision (numbers_of answer ∷ []) ≡ map shown (events_in answer)
@@ -78,13 +74,13 @@ more_append : {X : Type 0} (b : Bool) (x : X) (xs ys all : List X) → all ≡ x
 more_append true x xs ys all same = ap (λ zs. x ∷ zs) same
 more_append false x xs ys all same = same
 
-told_append : (acts more : List Act) → told (acts ++ more) ≡ told acts ++ told more
+pub told_append : (acts more : List Act) → told (acts ++ more) ≡ told acts ++ told more
 told_append [] more = refl
 told_append (Admit job answer ∷ acts) more =
     more_append (answer.status == 0) (answer.number, job) (told acts) (told more) _ (told_append acts more)
 told_append (act ∷ acts) more = told_append acts more
 
-finishes_append : (acts more : List Act) → finishes_told (acts ++ more) ≡ finishes_told acts ++ finishes_told more
+pub finishes_append : (acts more : List Act) → finishes_told (acts ++ more) ≡ finishes_told acts ++ finishes_told more
 finishes_append [] more = refl
 finishes_append (Done tick f answer ∷ acts) more =
     more_append (answer == 0) f (finishes_told acts) (finishes_told more) _ (finishes_append acts more)
@@ -181,9 +177,10 @@ nothing v acts t there jobs finishes none = record {
 }
 
 -- one call was made
-one_call : (v w : Life) (acts : List Act) (call : engine.Call) (t : Slot) → t.engine ≡ Some w → engine.Leads call v w
-    → engine.admitted (call ∷ []) ≡ told acts → engine.finishes_in (call ∷ []) ≡ finishes_told acts
-    → map shown (engine.decided (call ∷ [])) ≡ given acts → Turned v acts t
+abbrev one_call : (v w : Life) (acts : List Act) (call : engine.Call) (t : Slot) → t.engine ≡ Some w
+    → engine.Leads call v w → engine.admitted (call ∷ []) ≡ told acts
+    → engine.finishes_in (call ∷ []) ≡ finishes_told acts → map shown (engine.decided (call ∷ [])) ≡ given acts
+    → Turned v acts t
 one_call v w acts call t there leads jobs finishes decisions = record {
   calls = call ∷ [];
   w = w;
@@ -195,8 +192,8 @@ one_call v w acts call t there leads jobs finishes decisions = record {
 }
 
 -- of a decision or none
-one_step : (v w : Life) (acts : List Act) (to : Horizon) (decision : Option Decision) (answer : Decided) (t : Slot)
-    → t.engine ≡ Some w → engine.Leads (engine.Stepped to decision) v w → answer ≡ numbers_of decision
+abbrev pub one_step : (v w : Life) (acts : List Act) (to : Horizon) (decision : Option Decision) (answer : Decided)
+    (t : Slot) → t.engine ≡ Some w → engine.Leads (engine.Stepped to decision) v w → answer ≡ numbers_of decision
     → told acts ≡ [] → finishes_told acts ≡ [] → filter is_decision (answer ∷ []) ≡ given acts → Turned v acts t
 one_step v w acts to decision answer t there leads so jobs finishes is =
     one_call v w acts (engine.Stepped to decision) t there leads (sym jobs) (sym finishes)
@@ -245,22 +242,26 @@ turn_one v Ask s t there does =
     nothing v (Ask ∷ []) t (subst (λ x. MayHave x v) (sym does) there) refl refl refl
 turn_one v Drop s t there does = nothing v (Drop ∷ []) t (inr (ap (λ (x : Slot). x.engine) does)) refl refl refl
 
+-- acts behind acts
+abbrev pub turned_twice : (v : Life) (acts more : List Act) (s t : Slot) (one : Turned v acts s) → Turned one.w more t
+    → Turned v (acts ++ more) t
+turned_twice v acts more s t one rest = record {
+  calls = one.calls ++ rest.calls;
+  w = rest.w;
+  there = rest.there;
+  leads = leads_append one.calls rest.calls v one.w rest.w one.leads rest.leads;
+  jobs = life.admitted_append one.calls rest.calls ∙ ap (λ js. js ++ engine.admitted rest.calls) one.jobs
+      ∙ ap (λ js. told acts ++ js) rest.jobs ∙ sym (told_append acts more);
+  finishes = life.finishes_append one.calls rest.calls
+      ∙ ap (λ fs. fs ++ engine.finishes_in rest.calls) one.finishes
+      ∙ ap (λ fs. finishes_told acts ++ fs) rest.finishes ∙ sym (finishes_append acts more);
+  decisions = ap (map shown) (life.decided_append one.calls rest.calls)
+      ∙ map-append shown (engine.decided one.calls) (engine.decided rest.calls)
+      ∙ ap (λ es. es ++ map shown (engine.decided rest.calls)) one.decisions
+      ∙ ap (λ es. given acts ++ es) rest.decisions ∙ sym (given_append acts more);
+}
+
 pub turn_all : (acts : List Act) (v : Life) (s t : Slot) → MayHave s v → DoesAll acts s t → Turned v acts t
 turn_all [] v s t there here = nothing v [] t (subst (λ x. MayHave x v) (sym here) there) refl refl refl
-turn_all (act ∷ acts) v s t there it =
-    let one = turn_one v act s it.0 there it.1 in let rest = turn_all acts one.w it.0 t one.there it.2 in record {
-      calls = one.calls ++ rest.calls;
-      w = rest.w;
-      there = rest.there;
-      leads = leads_append one.calls rest.calls v one.w rest.w one.leads rest.leads;
-      jobs = life.admitted_append one.calls rest.calls ∙ ap (λ js. js ++ engine.admitted rest.calls) one.jobs
-          ∙ ap (λ js. told (act ∷ []) ++ js) rest.jobs ∙ sym (told_append (act ∷ []) acts);
-      finishes = life.finishes_append one.calls rest.calls
-          ∙ ap (λ fs. fs ++ engine.finishes_in rest.calls) one.finishes
-          ∙ ap (λ fs. finishes_told (act ∷ []) ++ fs) rest.finishes ∙ sym (finishes_append (act ∷ []) acts);
-      decisions = ap (map shown) (life.decided_append one.calls rest.calls)
-          ∙ map-append shown (engine.decided one.calls) (engine.decided rest.calls)
-          ∙ ap (λ es. es ++ map shown (engine.decided rest.calls)) one.decisions
-          ∙ ap (λ es. given (act ∷ []) ++ es) rest.decisions
-          ∙ sym (given_append (act ∷ []) acts);
-    }
+turn_all (act ∷ acts) v s t there it = let one = turn_one v act s it.0 there it.1 in
+    turned_twice v (act ∷ []) acts it.0 t one (turn_all acts one.w it.0 t one.there it.2)

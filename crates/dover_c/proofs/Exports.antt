@@ -89,6 +89,7 @@ abbrev pub AllFit : (gs : List Copied) → Values 0 tt gs → Type 0
 AllFit [] a = Unit {0}
 AllFit (g ∷ gs) a = Fits g (g.copies.val a.0) × AllFit gs a.1
 
+-- nothing is had of them at exit, and they are there as they were
 abbrev dropped : (gs : List Copied) → Stays (params {n = 0} gs) (all yes (params gs))
 dropped [] = tt
 dropped (g ∷ gs) = (stay_dropped _ yes, dropped gs)
@@ -152,6 +153,7 @@ module _ {M : Type 1} {𝓤 : Ura M} (𝓛 : Logic 𝓤) (𝓜 : Model 𝓤 𝓛
     abbrev pub IsAsSaid : Callee → Type 1
     IsAsSaid k = Meets 𝓛 (function gs R).signature (𝓣.C k) (closing 𝓛 (function gs R) function_says)
 
+    -- where the code leads from what is asked, and what the parameters own, to what is left
     pub meets : {k : Callee} (e : Fn) → Closed 𝓤 H 𝓣.C 𝓣.Λ k e →
         ((v : G) (a : Values 0 tt gs) → AllFit gs a → (Q : Val → SProp 𝓤) →
         ((u : Val) (r : R.Denot) → Sq 𝓛 (‵ (Leaves a v r) ∷ ‵ (R.own_val r (u ∷ [])) ∷ []) (prop (Q u))) →

@@ -1,7 +1,7 @@
 -- What a program in C is given.
 use Rattle.std.proofs.Common.{◌≡◌, ℕ, ◌≤◌, ◌+◌, List, [], ◌∷◌, ◌++◌, map, refl, sym, ap, ◌∙◌, subst, cond, append-nil}
-use Rattle.std.proofs.Common.{Bool, true, false, inl, inr, Option, Some, None, ◌==◌, ◌||◌, not, nat_lt, nat_le, filter}
-use Rattle.std.proofs.Common.{arith, sum_by}
+use Rattle.std.proofs.Common.{Bool, true, false, inl, inr, Option, Some, None, ◌==◌, ◌||◌, not, nat_lt, nat_le, arith}
+use Rattle.std.proofs.Common.{sum_by}
 use Rattle.std.specs.List.{enumerate_from}
 use Rattle.std.proofs.lemmas.Bool.{and_parts, or_right}
 use Rattle.std.proofs.lemmas.List.{map-append}
@@ -18,21 +18,22 @@ use Rattle.dover_model.specs.Finishes as early
 use Rattle.dover_model.proofs.lists.Members.{some_same}
 use Rattle.dover_model.proofs.lists.Tests.{never}
 use Rattle.dover_model.specs.declared.horizon.Horizon.TheVariants as horizon
-use Rattle.dover_engine.specs.Decisions.{event_in, events_in}
+use Rattle.dover_engine.specs.Decisions.{event_in}
 use Rattle.dover_engine.specs.Life.{Life, has_ended, done_value}
 use Rattle.dover_engine.specs.Given.{Gave}
 use Rattle.dover_engine.specs.Calls as engine
 use Rattle.dover_engine.specs.Restarts as engines
 use Rattle.dover_engine.proofs.LifeLaws as life
 use Rattle.dover_engine.proofs.Restarting as restarts
-use Rattle.dover_c.proofs.Acts.{apart, given_of, kind_none, kind_end, given_append, leads_append, MayHave, calls_it}
-use Rattle.dover_c.proofs.Acts.{step_taken, shown_event, may_end, Turned, turn_all}
+use Rattle.dover_c.proofs.Acts.{turned_twice, one_step, told_append, finishes_append, apart, kind_none}
+use Rattle.dover_c.proofs.Acts.{kind_end, leads_append, MayHave, calls_it, step_taken, shown_event}
+use Rattle.dover_c.proofs.Acts.{may_end, Turned, turn_all}
 use Rattle.dover_c.specs.declared.Decided.{Decided}
 use Rattle.dover_c.specs.declared.Restarted.{Restarted}
 use Rattle.dover_c.specs.declared.slot.Slot.{Slot}
-use Rattle.dover_c.specs.Codes.{made_status, Stands, IsFresh, RestartAnswers}
+use Rattle.dover_c.specs.Codes.{made_status, shown, Stands, IsFresh, RestartAnswers}
 use Rattle.dover_c.specs.Program.{Act, Done, Step, Finish, DoesAll, IsProgram, told, jobs_told, finishes_told, all_told}
-use Rattle.dover_c.specs.Program.{is_decision, given, shown, Past, DoesPast, turn_told, told_anew}
+use Rattle.dover_c.specs.Program.{is_decision, given, Past, DoesPast, turn_told, told_anew}
 
 -- ---- decisions that lose no job
 
@@ -323,23 +324,18 @@ module _ (version : Version) (k : Fraction) (capacity : ℕ) (pasts : List Past)
       let (u, begun, does) = front acts (Finish answer ∷ []) t program in let it = now acts u begun in
       elim (calls_it _ _ it.w u does.0 it.there does.1) [
         | inl (w, here, fin) ↦
-            let last : engine.Call = engine.Stepped horizon.End fin.says in
             let is_end = kind_end fin.says (sym (ap (λ (d : Decided). d.kind) fin.shown) ∙ seven) in
             let ended : has_ended w ≡ true = fin.step.ended
             ∙ or_right (has_ended it.w) (is_end_given (event_in fin.says)) (ap is_end_given is_end.1) in
-            let jobs : engine.admitted (it.calls ++ (last ∷ [])) ≡ told acts =
-            life.admitted_append it.calls (last ∷ []) ∙ append-nil (engine.admitted it.calls) ∙ it.jobs in
-            let finishes : engine.finishes_in (it.calls ++ (last ∷ [])) ≡ finishes_told acts =
-            life.finishes_append it.calls (last ∷ []) ∙ append-nil (engine.finishes_in it.calls) ∙ it.finishes in
-            given_append acts (Finish answer ∷ [])
-            ∙ ap (λ es. es ++ given (Finish answer ∷ [])) (sym it.decisions)
-            ∙ ap (λ es. map shown (engine.decided it.calls) ++ es)
-            (ap (λ a. filter is_decision (a ∷ [])) fin.shown ∙ given_of fin.says
-            ∙ ap (map shown) (sym (append-nil (events_in fin.says))))
-            ∙ sym (map-append shown (engine.decided it.calls) (engine.decided (last ∷ [])))
-            ∙ ap (map shown) (sym (life.decided_append it.calls (last ∷ []))
-            ∙ life.ended_all version k (it.calls ++ (last ∷ [])) w
-            (further acts u begun (last ∷ []) w (w, (may_end it.w.last, fin.step), refl)) ended
-            ∙ ap printed (all_are version k (it.calls ++ (last ∷ [])) acts jobs finishes))
+            let all : Turned (past acts u begun).w (acts ++ (Finish answer ∷ [])) t =
+            turned_twice (past acts u begun).w acts (Finish answer ∷ []) u t it
+            (one_step it.w w (Finish answer ∷ []) horizon.End fin.says answer t
+            (subst (λ x. x.engine ≡ Some w) (sym does.2) here) (may_end it.w.last, fin.step) fin.shown refl refl refl)
+            in
+            sym all.decisions ∙ ap (map shown) (life.ended_all version k all.calls w
+            (record { made = (past acts u begun).w; fresh = (past acts u begun).fresh; lives = all.leads }) ended
+            ∙ ap printed (all_are version k all.calls acts
+            (all.jobs ∙ told_append acts (Finish answer ∷ []) ∙ append-nil (told acts))
+            (all.finishes ∙ finishes_append acts (Finish answer ∷ []) ∙ append-nil (finishes_told acts))))
         | inr none ↦ apart 7 11 refl (sym seven ∙ ap (λ (d : Decided). d.kind) none.0)
       ]

@@ -1,8 +1,10 @@
 -- What the numbers say that go to a caller in C.
-use Rattle.std.specs.Prelude.{◌≡◌, ℕ, [], Option, Some, None, not, ◌||◌, ◌==◌, nat_lt, if◌then◌else◌, Result, Ok}
-use Rattle.std.specs.Prelude.{Err, ◌/◌, ◌%◌, ◌^◌}
+use Rattle.std.specs.Prelude.{◌≡◌, ℕ, [], Option, Some, None, not, ◌||◌, ◌==◌, nat_lt, if◌then◌else◌, Result, Ok, Err}
+use Rattle.std.specs.Prelude.{◌/◌, ◌%◌, ◌^◌}
 use Rattle.dover_model.specs.Common.{most_ready, Fraction, is_ratio, is_some_factor, IsRatio, fraction, version_number}
 use Rattle.dover_model.specs.Common.{Finish, JobFacts, MayFollow, no_jobs}
+use Rattle.dover_model.specs.declared.events.Event.{Event}
+use Rattle.dover_model.specs.declared.events.Event.TheVariants.{Release, Run, Preempt, Take, Complete, Abandon, End}
 use Rattle.dover_model.specs.declared.events.Version.{Version}
 use Rattle.dover_model.specs.declared.horizon.Horizon.TheVariants as horizon
 use Rattle.dover_engine.specs.declared.causes.NotAdmitted.{NotAdmitted}
@@ -17,8 +19,7 @@ use Rattle.dover_engine.specs.declared.causes.NotRestarted.TheVariants as not_re
 use Rattle.dover_engine.specs.declared.causes.NotStepped.{NotStepped}
 use Rattle.dover_engine.specs.declared.causes.NotStepped.TheVariants as not_stepped
 use Rattle.dover_engine.specs.declared.decision.Decision.{Decision}
-use Rattle.dover_engine.specs.declared.decision.Decision.TheVariants.{Release, Run, Preempt, Take, Complete, Abandon}
-use Rattle.dover_engine.specs.declared.decision.Decision.TheVariants.{End}
+use Rattle.dover_engine.specs.Decisions.{event_of}
 use Rattle.dover_engine.specs.Life.{Life, done_value, spare_of, successor_of}
 use Rattle.dover_engine.specs.Given.{Gave}
 use Rattle.dover_engine.specs.Calls.{IsAdmitted, IsCause, IsDone, IsNotDone, Decides, IsNext, mark_refusal}
@@ -162,16 +163,20 @@ low_word number = number % 2 ^ 64
 abbrev pub no_engine : Decided
 no_engine = record { tick = 0; job = 0; other = 0; kind = 11 }
 
+-- an event in numbers
+abbrev pub shown : Event → Decided
+shown (Release n job) = record { tick = job.release; job = n; other = 0; kind = 1 }
+shown (Run at n) = record { tick = at; job = n; other = 0; kind = 2 }
+shown (Preempt at stops starts) = record { tick = at; job = starts; other = stops; kind = 3 }
+shown (Take at stops starts) = record { tick = at; job = starts; other = stops; kind = 4 }
+shown (Complete at n) = record { tick = at; job = n; other = 0; kind = 5 }
+shown (Abandon at n) = record { tick = at; job = n; other = 0; kind = 6 }
+shown (End value) = record { tick = low_word value; job = 0; other = high_word value; kind = 7 }
+
 -- an answer as a caller in C sees it
 abbrev pub numbers_of : Option Decision → Decided
 numbers_of None = record { tick = 0; job = 0; other = 0; kind = 0 }
-numbers_of (Some (Release n job)) = record { tick = job.release; job = n; other = 0; kind = 1 }
-numbers_of (Some (Run at n)) = record { tick = at; job = n; other = 0; kind = 2 }
-numbers_of (Some (Preempt at stops starts)) = record { tick = at; job = starts; other = stops; kind = 3 }
-numbers_of (Some (Take at stops starts)) = record { tick = at; job = starts; other = stops; kind = 4 }
-numbers_of (Some (Complete at n)) = record { tick = at; job = n; other = 0; kind = 5 }
-numbers_of (Some (Abandon at n)) = record { tick = at; job = n; other = 0; kind = 6 }
-numbers_of (Some (End value)) = record { tick = low_word value; job = 0; other = high_word value; kind = 7 }
+numbers_of (Some decision) = shown (event_of decision)
 
 -- the number of a cause
 abbrev pub mark_code : NotStepped → ℕ

@@ -2,15 +2,13 @@
 use Rattle.dover_model.specs.Common.{Fraction, JobFacts, Instance, jobs_under, with_finishes, version_number, anew}
 use Rattle.dover_model.specs.Common.{Turn, turn_under}
 use Rattle.std.specs.Prelude.{◌≡◌, ℕ, List, [], ◌∷◌, ◌++◌, map, Bool, ◌&&◌, ◌==◌, nat_le, if◌then◌else◌, filter}
-use Rattle.dover_model.specs.declared.events.Event.{Event}
-use Rattle.dover_model.specs.declared.events.Event.TheVariants.{Release, Run, Preempt, Take, Complete, Abandon, End}
 use Rattle.dover_model.specs.declared.events.Version.{Version}
 use Rattle.dover_model.specs.Finishes as early
 use Rattle.dover_c.specs.declared.Admitted.{Admitted}
 use Rattle.dover_c.specs.declared.Decided.{Decided}
 use Rattle.dover_c.specs.declared.slot.Slot.{Slot}
 use Rattle.dover_c.specs.Codes.{made_status, IsMade, AdmitAnswers, StepAnswers, FinishAnswers, DropAnswers, DoneAnswers}
-use Rattle.dover_c.specs.Codes.{high_word, low_word, RestartAnswers}
+use Rattle.dover_c.specs.Codes.{RestartAnswers}
 
 -- a call behind dover_init, with its answer
 pub data Act : Type 0 where
@@ -101,13 +99,3 @@ answers (act ∷ acts) = answers acts
 -- the decisions that it was given
 abbrev pub given : List Act → List Decided
 given acts = filter is_decision (answers acts)
-
--- an event in numbers
-abbrev pub shown : Event → Decided
-shown (Release n job) = record { tick = job.release; job = n; other = 0; kind = 1 }
-shown (Run at n) = record { tick = at; job = n; other = 0; kind = 2 }
-shown (Preempt at stops starts) = record { tick = at; job = starts; other = stops; kind = 3 }
-shown (Take at stops starts) = record { tick = at; job = starts; other = stops; kind = 4 }
-shown (Complete at n) = record { tick = at; job = n; other = 0; kind = 5 }
-shown (Abandon at n) = record { tick = at; job = n; other = 0; kind = 6 }
-shown (End value) = record { tick = low_word value; job = 0; other = high_word value; kind = 7 }

@@ -11,7 +11,8 @@ ghost use Rattle.dover_model.specs.Finishes as early;
 ghost use Rattle.dover_c.specs.declared.slot.Slot.{Slot};
 ghost use Rattle.dover_c.specs.declared.Decided.{Decided};
 ghost use Rattle.dover_c.specs.Program.{Act, Past, Done, Step, Finish, IsProgram, told, jobs_told, finishes_told};
-ghost use Rattle.dover_c.specs.Program.{all_told, told_anew, is_decision, given, shown};
+ghost use Rattle.dover_c.specs.Program.{all_told, told_anew, is_decision, given};
+ghost use Rattle.dover_c.specs.Codes.{shown};
 
 /// The jobs that the program was told were admitted have the numbers 0, 1, 2 and so on. Where a step to a mark answers
 /// that none comes, the decisions that were given are all that is settled there of the run of all those jobs, in which

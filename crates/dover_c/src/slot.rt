@@ -125,12 +125,7 @@ fn other_in(cause: NotAdmitted) -> u64
 {
     match cause {
         NotAdmitted::Ratio { other } => other,
-        NotAdmitted::Unsettled => 0,
-        NotAdmitted::BadJob => 0,
-        NotAdmitted::Count => 0,
-        NotAdmitted::Total => 0,
-        NotAdmitted::Full => 0,
-        NotAdmitted::Numbers => 0,
+        _ => 0,
     }
 }
 
@@ -284,36 +279,27 @@ fn restart_code(cause: NotRestarted) -> u32
     }
 }
 
-fn restarted(status: u32, tick: u64) -> Restarted
-    ensures { result ≡ record { tick = tick; status = status } }
-{
-    Restarted { tick, status }
-}
-
 pub(crate) fn restart(slot: &mut Slot) -> Restarted
     ensures { RestartAnswers slot.old slot.new result }
 {
     let Some(engine) = &mut slot.engine else {
-        return restarted(7, 0);
+        return Restarted { tick: 0, status: 7 };
     };
     match engine.restart() {
-        Ok(tick) => restarted(0, tick),
-        Err(cause) => restarted(restart_code(cause), 0),
+        Ok(tick) => Restarted { tick, status: 0 },
+        Err(cause) => Restarted {
+            tick: 0,
+            status: restart_code(cause),
+        },
     }
-}
-
-fn tick_of(status: u32, tick: u64) -> Due
-    ensures { result ≡ record { tick = tick; status = status } }
-{
-    Due { tick, status }
 }
 
 fn due_of(answer: Option<u64>) -> Due
     ensures { result ≡ due_of answer }
 {
     match answer {
-        Some(tick) => tick_of(0, tick),
-        None => tick_of(1, 0),
+        Some(tick) => Due { tick, status: 0 },
+        None => Due { tick: 0, status: 1 },
     }
 }
 
@@ -322,7 +308,7 @@ pub(crate) fn next(slot: &mut Slot) -> Due
 {
     match &slot.engine {
         Some(engine) => due_of(engine.next()),
-        None => tick_of(7, 0),
+        None => Due { tick: 0, status: 7 },
     }
 }
 
