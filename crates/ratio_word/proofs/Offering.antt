@@ -1,15 +1,14 @@
 -- What a line that offers a job makes of what is kept, and one that passes.
 use Rattle.std.proofs.Common.{◌≡◌, ◌≤◌, ◌<◌, ◌+◌, ℕ, List, [], ◌∷◌, ◌++◌, length, length-append, refl, sym, ap, ◌∙◌}
-use Rattle.std.proofs.Common.{subst, Bool, true, cond, Option, Some, None, Result, Ok, Err, is_some, nat_lt, lt-ltb}
-use Rattle.std.proofs.Common.{le-ltb, arith, ne_eqb, ◌==◌, ◌&&◌, false, le-leb, leb-true, nat_le}
-use Rattle.std.proofs.lemmas.Bool.{and_from, and_parts}
+use Rattle.std.proofs.Common.{subst, Bool, true, cond, Option, Some, None, is_some, nat_lt, lt-ltb, le-ltb, arith}
+use Rattle.std.proofs.Common.{ne_eqb, ◌==◌, ◌&&◌, le-leb, nat_le}
+use Rattle.std.proofs.lemmas.Bool.{and_from}
 use Rattle.dover_model.specs.declared.events.Refusal.TheVariants as refusal
 use Rattle.dover_model.specs.declared.events.Version.{Version}
 use Rattle.dover_model.specs.declared.events.Version.TheVariants.{Three}
 use Rattle.dover_model.specs.Common.{Declaration as Rules, Faulty, IsJob, JobFacts, Open, is_job, job_of_numbers}
 use Rattle.dover_model.specs.Common.{last_tick_in, most_jobs}
 use Rattle.dover_model.specs.Feed as feed
-use Rattle.dover_model.proofs.lists.Members.{by_bool}
 use Rattle.ratio_word.specs.Extremes.{AreExtremes}
 use Rattle.ratio_word.specs.declared.extremes.Extremes.{Extremes}
 use Rattle.event_feed.specs.Kept.{cause_of_fault}
@@ -22,7 +21,7 @@ use Rattle.ratio_word.specs.Account.{with_line}
 use Rattle.ratio_word.specs.declared.lines.TextLine.{TextLine}
 use Rattle.ratio_word.specs.declared.lines.TextLine.TheVariants.{Job, Plain}
 use Rattle.ratio_word.proofs.Declaring.{declared_before, undeclared}
-use Rattle.ratio_word.specs.Keeping.{KeepsAccount, KeepsDeclared, KeepsRules, StandsAt, Takes, offer_cause, with_offer}
+use Rattle.ratio_word.specs.Keeping.{KeepsAccount, KeepsDeclared, KeepsRules, StandsAt, offer_cause, with_offer}
 use Rattle.ratio_word.specs.declared.intake.Declaration.{Declaration}
 use Rattle.ratio_word.specs.declared.intake.Intake.{Intake}
 use Rattle.ratio_word.specs.declared.intake.Progress.{Progress}
@@ -43,14 +42,6 @@ passes_alone : (version : Version) (j : JobFacts) → IsJob j → j.deadline ≤
     → alone version j ≡ true
 passes_alone version j job due = and_from (is_job j) (nat_le j.deadline (last_tick_in version)) job.passes
     (le-leb _ _ due)
-
-pub not_alone : (version : Version) (count : ℕ) (j : JobFacts)
-    → (IsJob j → j.deadline ≤ last_tick_in version → ⊥)
-    → job_cause version count j ≡ Some (feed.NotAdmitted refusal.BadJob)
-not_alone version count j bad = ap (λ b. cause_by b (nat_lt count (most_jobs Three)))
-    (by_bool (alone version j ≡ false) (alone version j) (λ passes.
-    let parts = and_parts (is_job j) (nat_le j.deadline (last_tick_in version)) passes in
-    absurd (bad (record { passes = parts.0 }) (leb-true _ _ parts.1))) (λ fails. fails))
 
 pub too_many : (version : Version) (count : ℕ) (j : JobFacts) → IsJob j → j.deadline ≤ last_tick_in version
     → most_jobs Three ≤ count → job_cause version count j ≡ Some (feed.NotAdmitted refusal.Count)

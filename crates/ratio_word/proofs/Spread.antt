@@ -1,5 +1,5 @@
 -- The ratio that jobs keep is set by the least dense and the densest one.
-use Rattle.std.proofs.Common.{◌≡◌, ◌≤◌, ◌*◌, ℕ, List, [], ◌∷◌, inl, refl, sym, subst, Option, None}
+use Rattle.std.proofs.Common.{◌≡◌, ◌≤◌, ◌*◌, ℕ, List, ◌∷◌, inl, refl, sym, subst, Option, None}
 use Rattle.std.proofs.Common.{ap, arith, ◌+◌}
 use Rattle.std.proofs.lemmas.Nat.{mul-le}
 use Rattle.dover_model.specs.Common.{Fraction, IsJob, IsMember, IsRatio, JobFacts, fraction, most_q}

@@ -16,16 +16,6 @@ loop-init g c = record {
   calls = λ well. well;
 }
 
-pub next_out-requires : goal.next_out-requires
-next_out-requires g c =
-    let given = c.loop.invariant.given c.requires.stands.0 c.requires.stands.1 c.requires.stands.2 in
-    record { stands = (c.requires.stands.0, given.stands.0, given.stands.2) }
-
-pub write_in_lane-requires : goal.write_in_lane-requires
-write_in_lane-requires g c =
-    let given = c.loop.invariant.given c.requires.stands.0 c.requires.stands.1 c.requires.stands.2 in
-    (c.in-Some.ensures.gives c.requires.stands.0 given.stands.0 given.stands.2).3
-
 pub loop-preserved : goal.loop-preserved
 loop-preserved g c = record {
   given = λ ls left it.
@@ -76,23 +66,5 @@ returns-in-Err-clause-idle g c = c.next_out.ensures.idle c.loop.invariant.closed
 pub returns-in_default-clause-idle : goal.returns-in_default-clause-idle
 returns-in_default-clause-idle g c = c.next_out.ensures.idle c.loop.invariant.closed ∙ c.loop.invariant.idle
 
-pub returns-in_default-clause-cause : goal.returns-in_default-clause-cause
-returns-in_default-clause-cause g c = let kept = c.loop.invariant in record {
-  later = omega (arith, kept.writes);
-  ok = kept.writes;
-  failed = tt;
-  other = kept.reads;
-}
-
 pub returns-in_default-clause-stops : goal.returns-in_default-clause-stops
 returns-in_default-clause-stops g c = record { well = c.loop.invariant.calls; stopped = tt }
-
-pub returns-in-Err-clause-cause : goal.returns-in-Err-clause-cause
-returns-in-Err-clause-cause g c =
-    rw (c.loop.invariant.writes, c.loop.invariant.reads) at c.in-Err.ensures.cause
-
-pub returns-in-Err-clause-stops : goal.returns-in-Err-clause-stops
-returns-in-Err-clause-stops g c = record {
-  well = tt;
-  stopped = λ well. c.in-Err.ensures.stops.stopped (c.loop.invariant.calls well);
-}

@@ -1,6 +1,5 @@
-use Rattle.std.proofs.Common.{[], ◌∷◌, append_assoc, decimal, sym, arith}
+use Rattle.std.proofs.Common.{arith}
 use Rattle.line_text.proofs.Written.{digits}
-use Rattle.event_feed.specs.DueLines.{out_text}
 use Rattle.lanes_word.proofs.lines.write_in_lane.Goals as goal
 
 pub put_word-requires : goal.put_word-requires
@@ -9,7 +8,3 @@ put_word-requires c = omega (arith, c.write_out.ensures.fits)
 pub put_number-requires : goal.put_number-requires
 put_number-requires c =
     rw c.put_word.ensures (omega (arith, digits c.from.result (omega arith), c.write_out.ensures.fits))
-
-pub returns : goal.returns
-returns c = rw (c.put_number.ensures, c.put_word.ensures, c.from.ensures, c.write_out.ensures.text)
-    (sym (append_assoc (decimal c.args.lane) (32 ∷ out_text c.args.out) (10 ∷ [])))

@@ -1,5 +1,4 @@
 use Rattle.std.proofs.Common.{◌∙◌, ap, codes, subst, sym}
-use Rattle.std.proofs.lemmas.Result.{on_ok_weaker, on_err_weaker}
 use Rattle.dover_model.specs.Lines.{in_lines}
 use Rattle.dover_port.specs.Moves.{PutsThrough}
 use Rattle.dialogue.proofs.Putting.{puts_behind, puts_cut}
@@ -30,11 +29,3 @@ returns-in-Err-clause-stops g c = c.in-Err.ensures.stops
 
 pub returns-clause-cause : goal.returns-clause-cause
 returns-clause-cause g c = rw (c.in-Ok.ensures.cause.ok, c.in-Ok.ensures.cause.other) at c.put_job-2.ensures.cause
-
-pub returns-clause-stops : goal.returns-clause-stops
-returns-clause-stops g c = record {
-  well = on_ok_weaker c.put_job-2.result (λ last well. last (c.in-Ok.ensures.stops.well well))
-      c.put_job-2.ensures.stops.well;
-  stopped = on_err_weaker c.put_job-2.result (λ last well. last (c.in-Ok.ensures.stops.well well))
-      c.put_job-2.ensures.stops.stopped;
-}

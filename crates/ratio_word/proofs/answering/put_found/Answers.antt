@@ -1,5 +1,4 @@
-use Rattle.std.proofs.Common.{◌∙◌, subst}
-use Rattle.std.proofs.lemmas.Result.{on_ok_weaker, on_err_weaker}
+use Rattle.std.proofs.Common.{subst}
 use Rattle.dover_model.specs.Feed.{rules_with}
 use Rattle.dover_port.specs.Moves.{PutsThrough}
 use Rattle.dialogue.proofs.Putting.{puts_behind, puts_cut}
@@ -30,29 +29,3 @@ returns-in-Err-clause-cause g c = c.in-Err.ensures.cause
 
 pub returns-in-Err-clause-stops : goal.returns-in-Err-clause-stops
 returns-in-Err-clause-stops g c = c.in-Err.ensures.stops
-
-pub returns-in-Err-put_extremes-clause-cause : goal.returns-in-Err-put_extremes-clause-cause
-returns-in-Err-put_extremes-clause-cause g c =
-    rw (c.in-Ok.ensures.cause.ok, c.in-Ok.ensures.cause.other) at c.in-Err-put_extremes.ensures.cause
-
-pub returns-in-Err-put_extremes-clause-stops : goal.returns-in-Err-put_extremes-clause-stops
-returns-in-Err-put_extremes-clause-stops g c = record {
-  well = tt;
-  stopped = λ well. c.in-Err-put_extremes.ensures.stops.stopped (c.in-Ok.ensures.stops.well well);
-}
-
-pub returns-clause-cause : goal.returns-clause-cause
-returns-clause-cause g c = rw (
-  c.in-Ok-put_extremes.ensures.cause.ok ∙ c.in-Ok.ensures.cause.ok,
-  c.in-Ok-put_extremes.ensures.cause.other ∙ c.in-Ok.ensures.cause.other,
-) at c.put_bound.ensures.cause
-
-pub returns-clause-stops : goal.returns-clause-stops
-returns-clause-stops g c = record {
-  well = on_ok_weaker c.put_bound.result
-      (λ last well. last (c.in-Ok-put_extremes.ensures.stops.well (c.in-Ok.ensures.stops.well well)))
-      c.put_bound.ensures.stops.well;
-  stopped = on_err_weaker c.put_bound.result
-      (λ last well. last (c.in-Ok-put_extremes.ensures.stops.well (c.in-Ok.ensures.stops.well well)))
-      c.put_bound.ensures.stops.stopped;
-}

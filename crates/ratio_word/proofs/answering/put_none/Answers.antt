@@ -1,4 +1,3 @@
-use Rattle.std.proofs.lemmas.Result.{on_ok_weaker, on_err_weaker}
 use Rattle.dialogue.proofs.Putting.{puts_behind, puts_cut}
 use Rattle.ratio_word.proofs.answering.put_none.Goals as goal
 
@@ -16,11 +15,3 @@ returns-in-Err-clause-stops g c = c.in-Err.ensures.stops
 
 pub returns-clause-cause : goal.returns-clause-cause
 returns-clause-cause g c = rw (c.in-Ok.ensures.cause.ok, c.in-Ok.ensures.cause.other) at c.put_extremes.ensures.cause
-
-pub returns-clause-stops : goal.returns-clause-stops
-returns-clause-stops g c = record {
-  well = on_ok_weaker c.put_extremes.result (λ last well. last (c.in-Ok.ensures.stops.well well))
-      c.put_extremes.ensures.stops.well;
-  stopped = on_err_weaker c.put_extremes.result (λ last well. last (c.in-Ok.ensures.stops.well well))
-      c.put_extremes.ensures.stops.stopped;
-}

@@ -1,4 +1,4 @@
-use Rattle.dover_model.specs.Common.{edf, stretches, worth, spread}
+use Rattle.dover_model.specs.Common.{worth, spread}
 use Rattle.clairvoyant.specs.best.Search.{IsFound, IsSearched}
 use Rattle.std.proofs.Common.{map, ap, subst, ◌∙◌, Some, None}
 use Rattle.clairvoyant.specs.best.BestSet.{renumbered}
@@ -37,9 +37,3 @@ found c = subst (IsSearched c.args.jobs.now c.none.result.numbers.items 0 0) c.i
 
 pub returns-clause-value : goal.returns-clause-value
 returns-clause-value c = (found c).choice.value
-
-pub returns-clause-pieces : goal.returns-clause-pieces
-returns-clause-pieces c = c.renumber.ensures
-    ∙ ap (λ numbers. map (renumbered numbers) c.in-Some.choice.pieces.items) c.deref.ensures.value
-    ∙ ap (map (renumbered c.in-Some.choice.numbers.items))
-    ((found c).choice.pieces ∙ ap (λ jobs. stretches (edf jobs)) (found c).choice.jobs)

@@ -1,7 +1,4 @@
-use Rattle.std.proofs.Common.{ap, subst, MatchOption, ◌≡◌, drop, get_or, ◌+◌, ◌<◌, ◌++◌, ◌∷◌, [], length, refl, arith}
-use Rattle.std.proofs.Common.{rules}
-use Rattle.std.proofs.lemmas.List.Sums.{sum_by-drop_more}
-use Rattle.dover_model.specs.Common.{JobFacts, total_value}
+use Rattle.std.proofs.Common.{subst, MatchOption, ◌+◌, ◌<◌, ◌++◌, ◌∷◌, [], length, refl, arith, rules}
 use Rattle.clairvoyant.specs.best.Search.{IsChoice, IsSearched}
 use Rattle.clairvoyant.proofs.best.Rising.{rise_wider}
 use Rattle.clairvoyant.proofs.best.Values.{value_few, left_few}
@@ -137,22 +134,6 @@ search-requires t c =
     let rest = left_next _ _ _ _ _ c.requires.left short c.index-jobs-next.is c.value.ensures.is in (
       search rules,
       (c.requires.in_order, (c.requires.count, (c.requires.due, (c.requires.each, (omega arith, (put, rest)))))),
-    )
-
-pub overflow_sub-left : goal.overflow_sub-left
-overflow_sub-left t c =
-    let short : c.args.next < length c.args.jobs.now =
-    (let other = c.if-next-jobs.false in omega (arith, other, c.requires.next)) in
-    let step : total_value (drop c.args.next c.args.jobs.now)
-    ≡ (get_or c.args.jobs.now c.args.next c.index-jobs-next.result).value
-    + total_value (drop (c.args.next + 1) c.args.jobs.now) =
-    sum_by-drop_more (λ (i : JobFacts). i.value) c.args.jobs.now c.args.next c.index-jobs-next.result short in
-    omega (
-      arith,
-      c.requires.left,
-      c.value.ensures.is,
-      step,
-      ap (λ (i : JobFacts). i.value) c.index-jobs-next.is,
     )
 
 pub overflow_add-next : goal.overflow_add-next

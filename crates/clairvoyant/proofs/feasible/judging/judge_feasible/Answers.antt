@@ -1,5 +1,5 @@
-use Rattle.std.proofs.Common.{Some, sym, subst, ℕ, Option}
-use Rattle.clairvoyant.specs.feasible.Progress.{IsShown, IsWhole}
+use Rattle.std.proofs.Common.{sym, subst, ℕ, Option}
+use Rattle.clairvoyant.specs.feasible.Progress.{IsWhole}
 use Rattle.clairvoyant.specs.declared.feasible.answer.Feasible.{Feasible}
 use Rattle.clairvoyant.specs.feasible.Feasibility.{IsAnswer}
 use Rattle.clairvoyant.proofs.feasible.Deciding.{shows_all, shows_window}
@@ -21,9 +21,3 @@ returns c = elim c.match-schedule.branch [
       c.in_ok-schedule.ensures)
       w.last_start-a.ensures.release w.last_start-a.ensures.overfull w.last_start-a.ensures.last w.work_inside.ensures)
 ]
-
-pub last_start-a-requires-clause-some : goal.last_start-a-requires-clause-some
-last_start-a-requires-clause-some c =
-    let shown : IsShown c.args.jobs.now (Some c.in-Some.b) =
-    subst (IsShown c.args.jobs.now) c.in-Some.is c.in_ok-schedule.ensures.shown in
-    (shown.1.0, _, shown.1.1)

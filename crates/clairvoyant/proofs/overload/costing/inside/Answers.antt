@@ -1,7 +1,6 @@
-use Rattle.std.proofs.Common.{◌++◌, ◌∙◌, [], ◌∷◌, true, false, sym, ap, append-nil, take_all}
+use Rattle.std.proofs.Common.{◌++◌, ◌∙◌, [], ◌∷◌, true, false, sym, ap, append-nil}
 use Rattle.clairvoyant.proofs.overload.Near.{inside_more}
 use Rattle.clairvoyant.proofs.overload.costing.inside.Goals as goal
-use Rattle.clairvoyant.specs.overload.Stretches.{jobs_inside}
 use Rattle.clairvoyant.proofs.overload.costing.inside.Goals.{then-is_inside+in_ok-push, else-is_inside}
 
 pub loop-job-preserved : goal.loop-job-preserved
@@ -14,7 +13,3 @@ loop-job-preserved c = elim c.if-is_inside.branch [
       ∙ sym (inside_more c.args.jobs.now c.loop-job.job-index c.job-item.result c.args.from c.args.until false
       c.loop-job-test.true c.job-item.is w.if-is_inside.ensures)
 ]
-
-pub returns : goal.returns
-returns c = c.loop-job.invariant
-    ∙ ap (λ jobs. jobs_inside jobs c.args.from c.args.until) (take_all _ c.args.jobs.now c.loop-job-test.false)

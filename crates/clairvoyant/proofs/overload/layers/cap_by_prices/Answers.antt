@@ -1,7 +1,6 @@
 use Rattle.std.proofs.Common.{sym, subst, arith}
 use Rattle.clairvoyant.specs.overload.Stretches.{Caps}
 use Rattle.clairvoyant.proofs.overload.Paying.{none_paid, total_caps}
-use Rattle.std.proofs.Math.Nat.{le-div_iff_mul-le}
 use Rattle.clairvoyant.proofs.overload.layers.cap_by_prices.Goals as goal
 
 pub loop-layer-init : goal.loop-layer-init
@@ -22,7 +21,3 @@ round-requires-clause-in_order c = c.requires.in_order
 
 pub most-most-requires-clause-priced : goal.most-most-requires-clause-priced
 most-most-requires-clause-priced c = c.loop-layer.invariant
-
-pub returns-then-most-from-clause-cap : goal.returns-then-most-from-clause-cap
-returns-then-most-from-clause-cap c = λ rules s.
-    (le-div_iff_mul-le {k = 1_000_000_000_000_000} (omega arith)).1 (omega (arith, c.most-most.ensures rules s))

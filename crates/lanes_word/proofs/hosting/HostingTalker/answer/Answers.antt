@@ -11,16 +11,6 @@ use Rattle.lanes_word.proofs.hosting.HostingTalker.answer.Goals as goal
 pub end-requires : goal.end-requires
 end-requires g c = (c.requires.ready.1, c.requires.ready.2.rests)
 
-pub all_ended-requires : goal.all_ended-requires
-all_ended-requires g c =
-    let x = c.requires.ready.1 in
-    (lines_of x, _, (c.in-Ok.ensures x c.requires.ready.2.rests).1)
-
-pub put_left-requires-clause-stands : goal.put_left-requires-clause-stands
-put_left-requires-clause-stands g c =
-    let x = c.requires.ready.1 in
-    (lines_of x, _, (c.in-Ok.ensures x c.requires.ready.2.rests).1)
-
 pub put_left-requires-clause-closed : goal.put_left-requires-clause-closed
 put_left-requires-clause-closed g c =
     let ended = c.in-Ok.ensures c.requires.ready.1 c.requires.ready.2.rests in
@@ -95,30 +85,14 @@ returns-in-Ok-put_refused-clause-spent g c = λ a x at.
 pub returns-clause-spent : goal.returns-clause-spent
 returns-clause-spent g c = λ a x at. c.laws.ensures.few c.args.self.input x _ a _ at.rests.stands at.paid
 
-pub returns-in-Ok-put_left-clause-cause : goal.returns-in-Ok-put_left-clause-cause
-returns-in-Ok-put_left-clause-cause g c =
-    (c.in-Ok-put_left.ensures.cause.ok, c.in-Ok-put_left.ensures.cause.other)
-
 pub returns-in-Ok-put_left-clause-stops : goal.returns-in-Ok-put_left-clause-stops
 returns-in-Ok-put_left-clause-stops g c = c.in-Ok-put_left.ensures.stops.well
-
-pub returns-in-Ok-clause-cause : goal.returns-in-Ok-clause-cause
-returns-in-Ok-clause-cause g c =
-    (c.in-Err-put_left.ensures.cause.failed, c.in-Err-put_left.ensures.cause.other)
 
 pub returns-in-Ok-clause-stops : goal.returns-in-Ok-clause-stops
 returns-in-Ok-clause-stops g c = c.in-Err-put_left.ensures.stops.stopped
 
-pub returns-in-Ok-put_refused-clause-cause : goal.returns-in-Ok-put_refused-clause-cause
-returns-in-Ok-put_refused-clause-cause g c =
-    (c.in-Ok-put_refused.ensures.cause.ok, c.in-Ok-put_refused.ensures.cause.other)
-
 pub returns-in-Ok-put_refused-clause-stops : goal.returns-in-Ok-put_refused-clause-stops
 returns-in-Ok-put_refused-clause-stops g c = c.in-Ok-put_refused.ensures.stops.well
-
-pub returns-clause-cause : goal.returns-clause-cause
-returns-clause-cause g c =
-    (c.in-Err-put_refused.ensures.cause.failed, c.in-Err-put_refused.ensures.cause.other)
 
 pub returns-clause-stops : goal.returns-clause-stops
 returns-clause-stops g c = c.in-Err-put_refused.ensures.stops.stopped

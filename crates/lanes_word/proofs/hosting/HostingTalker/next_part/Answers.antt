@@ -1,4 +1,4 @@
-use Rattle.std.proofs.Common.{refl, ap, ◌∙◌}
+use Rattle.std.proofs.Common.{ap, ◌∙◌}
 use Rattle.lanes_word.specs.Keeping.{parts_of}
 use Rattle.lanes_word.proofs.hosting.HostingTalker.next_part.Goals as goal
 
@@ -7,17 +7,6 @@ next_out-requires g c = let at = c.requires.3.gives in (c.requires.1, at.0, at.2
 
 pub write_in_lane-requires : goal.write_in_lane-requires
 write_in_lane-requires g c = let at = c.requires.3.gives in (c.in-Some.ensures.gives c.requires.1 at.0 at.2).3
-
-pub returns-in-Some : goal.returns-in-Some
-returns-in-Some g c = record {
-  gives = λ a x rest at.
-      let given = c.in-Some.ensures.gives x at.gives.0 at.gives.2 in
-      rw c.write_in_lane.ensures (
-        parts_of given.0,
-        at.gives.1 ∙ ap parts_of given.1,
-        record { gives = (given.0, refl, given.2); paid = c.in-Some.ensures.paid a at.paid },
-      );
-}
 
 pub returns-in-None : goal.returns-in-None
 returns-in-None g c = record {

@@ -1,4 +1,4 @@
-use Rattle.std.proofs.Common.{◌≤◌, ◌++◌, ◌∷◌, [], length, refl, ap, arith, subst}
+use Rattle.std.proofs.Common.{◌++◌, ◌∷◌, [], length, refl, ap, arith, subst}
 use Rattle.dover_model.specs.Common.{last_tick_in}
 use Rattle.ratio_word.specs.Keeping.{KeepsDeclared}
 use Rattle.ratio_word.proofs.Offering.{fine}

@@ -2,7 +2,7 @@ use Rattle.std.proofs.Common.{◌+◌, ◌∷◌, ◌++◌, [], refl, sym, subst
 use Rattle.ratio_word.specs.Account.{account_of_lines}
 use Rattle.ratio_word.specs.Keeping.{StandsAt}
 use Rattle.ratio_word.proofs.Taking.{keeps_counted, line_taken, keeps_more, line_many, line_bad}
-use Rattle.event_feed.specs.declared.faults.Cause.TheVariants.{Line, Lines}
+use Rattle.event_feed.specs.declared.faults.Cause.TheVariants.{Line}
 use Rattle.ratio_word.specs.declared.intake.Progress.TheVariants.{Open, Refused}
 use Rattle.ratio_word.proofs.intake.Intake.take_line.Goals as goal
 
@@ -29,10 +29,6 @@ pub returns-then-self-gt-MOST_LINES-clause-stands : goal.returns-then-self-gt-MO
 returns-then-self-gt-MOST_LINES-clause-stands c = λ ls keeps.
     let mid = record c.args.self.now { lines = c.args.self.now.lines + 1 } in
     line_many c.args.self.now mid ls c.args.line.now keeps refl c.if-self-gt-MOST_LINES.true
-
-pub returns-then-self-gt-MOST_LINES-clause-keeps : goal.returns-then-self-gt-MOST_LINES-clause-keeps
-returns-then-self-gt-MOST_LINES-clause-keeps c = λ ls keeps clash.
-    absurd (let it : Refused Lines ≡ Open = clash in cc)
 
 pub returns-in-None-clause-stands : goal.returns-in-None-clause-stands
 returns-in-None-clause-stands c = λ ls keeps.

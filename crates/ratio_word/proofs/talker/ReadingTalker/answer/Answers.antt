@@ -2,16 +2,11 @@ use Rattle.std.proofs.Common.{◌++◌, ◌∷◌, []}
 use Rattle.dover_model.specs.Due.{fault_text}
 use Rattle.dover_port.specs.declared.status.Status.TheVariants.{Refused}
 use Rattle.event_feed.specs.Kept.{cause_of_fault}
-use Rattle.ratio_word.specs.Account.{account}
 use Rattle.ratio_word.proofs.Ended.{answered, refused}
 use Rattle.ratio_word.proofs.talker.ReadingTalker.answer.Goals as goal
 
 pub close-requires : goal.close-requires
 close-requires g c = (c.requires.ready.1, c.requires.ready.2.reads)
-
-pub answer-requires-clause-keeps : goal.answer-requires-clause-keeps
-answer-requires-clause-keeps g c = let it = c.in-Ok.ensures.ended _ c.requires.ready.2.reads in
-    (it.rules, (account c.requires.ready.1).jobs, it.keeps)
 
 pub returns-in-Ok-clause-answers : goal.returns-in-Ok-clause-answers
 returns-in-Ok-clause-answers g c = λ a x at over.
@@ -51,16 +46,8 @@ returns-in-Ok-clause-cause g c = c.answer.ensures.cause
 pub returns-in-Ok-clause-stops : goal.returns-in-Ok-clause-stops
 returns-in-Ok-clause-stops g c = c.answer.ensures.stops
 
-pub returns-in-Ok-put_fault-clause-cause : goal.returns-in-Ok-put_fault-clause-cause
-returns-in-Ok-put_fault-clause-cause g c =
-    (c.in-Ok-put_fault.ensures.cause.ok, c.in-Ok-put_fault.ensures.cause.other)
-
 pub returns-in-Ok-put_fault-clause-stops : goal.returns-in-Ok-put_fault-clause-stops
 returns-in-Ok-put_fault-clause-stops g c = c.in-Ok-put_fault.ensures.stops.well
-
-pub returns-in-Err-put_fault-clause-cause : goal.returns-in-Err-put_fault-clause-cause
-returns-in-Err-put_fault-clause-cause g c =
-    (c.in-Err-put_fault.ensures.cause.failed, c.in-Err-put_fault.ensures.cause.other)
 
 pub returns-in-Err-put_fault-clause-stops : goal.returns-in-Err-put_fault-clause-stops
 returns-in-Err-put_fault-clause-stops g c = c.in-Err-put_fault.ensures.stops.stopped

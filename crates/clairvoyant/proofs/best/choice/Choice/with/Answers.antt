@@ -81,10 +81,6 @@ returns-clause-choice c =
       serves = subst (λ jobs. ServesAll jobs c.in-All.pieces.items) c.deref-2.ensures.value shows.serves;
     }
 
-pub returns-clause-none : goal.returns-clause-none
-returns-clause-none c = c.in_ok-push-2.ensures.items
-    ∙ ap (λ ns. ns ++ c.args.number ∷ []) (c.in_ok-numbers.ensures.items ∙ c.deref-3.ensures.value)
-
 pub judge_feasible-requires-clause-due : goal.judge_feasible-requires-clause-due
 judge_feasible-requires-clause-due c =
     let numbers = c.args.self.now.numbers.items ++ c.args.number ∷ [] in

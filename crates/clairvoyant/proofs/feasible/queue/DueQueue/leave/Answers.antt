@@ -1,4 +1,4 @@
-use Rattle.std.proofs.Common.{length-set, ◌≡◌, ℕ, ◌∷◌, List, length, ap, sym, ◌∙◌, subst, arith, heap_items, slice_set}
+use Rattle.std.proofs.Common.{◌≡◌, ℕ, ◌∷◌, List, length, ap, sym, ◌∙◌, subst, arith, heap_items, slice_set}
 use Rattle.clairvoyant.specs.feasible.Queue.{Kept, QueueFacts, kept_of, IsInTurn, IsTakenOut}
 use Rattle.clairvoyant.proofs.feasible.Keeping.{IsPopped, popped, first_turn, first_low, changed_in_turn}
 use Rattle.clairvoyant.proofs.feasible.Keeping.{popped_in_turn, left_some, left_none}
@@ -61,14 +61,6 @@ returns-else-ticks-eq0-clause-stays c = λ it rest is some.
     subst (λ n. kept_of (slice_set c.self.inside.left.items n c.args.ticks) (heap_items c.self.inside.turns)
     ≡ (it.0, c.args.ticks) ∷ rest) (number_is _ _ c.requires it rest is)
     (left_some _ _ c.self.invariant it rest (ap (λ (q : QueueFacts). q.kept) c.self.view_is ∙ is) c.args.ticks)
-
-pub returns-then-ticks-eq0-clause-released : goal.returns-then-ticks-eq0-clause-released
-returns-then-ticks-eq0-clause-released c = length-set c.self.inside.left.items c.args.number c.args.ticks
-    ∙ ap (λ (q : QueueFacts). q.released) c.self.view_is
-
-pub returns-else-ticks-eq0-clause-released : goal.returns-else-ticks-eq0-clause-released
-returns-else-ticks-eq0-clause-released c = length-set c.self.inside.left.items c.args.number c.args.ticks
-    ∙ ap (λ (q : QueueFacts). q.released) c.self.view_is
 
 pub returns-else-ticks-eq0-clause-goes : goal.returns-else-ticks-eq0-clause-goes
 returns-else-ticks-eq0-clause-goes c it rest is none = absurd (c.if-ticks-eq0.false none)

@@ -1,5 +1,5 @@
-use Rattle.std.proofs.Common.{◌+◌, ◌^◌, ◌<◌, ◌∙◌, length-append, ◌≡◌, ◌++◌, ◌∷◌, [], length, ap, sym, subst, heap_items}
-use Rattle.std.proofs.Common.{refl, arith, IsPermutation}
+use Rattle.std.proofs.Common.{◌^◌, ◌<◌, ◌∙◌, ◌≡◌, ◌++◌, ◌∷◌, [], length, ap, sym, subst, heap_items, refl, arith}
+use Rattle.std.proofs.Common.{IsPermutation}
 use Rattle.clairvoyant.specs.feasible.Queue.{QueueFacts, kept_of, IsInTurn}
 use Rattle.clairvoyant.proofs.feasible.Keeping.{key_is, low_more, released_in_turn, released_kept}
 use Rattle.clairvoyant.proofs.feasible.queue.DueQueue.release.Goals as goal
@@ -39,28 +39,3 @@ returns-clause-kept c =
     (released_kept _ c.args.deadline (length c.self.inside.left.items) c.args.work _ _ c.self.invariant refl _
     (key_is _ c.args.deadline c.len-number.result c.turn_of.ensures few ∙ ap (λ m. (c.args.deadline, m)) n)
     c.in_ok-push-2.ensures.permutation))
-
-pub invariant_of-self : goal.invariant_of-self
-invariant_of-self c =
-    subst (λ left. IsInTurn left (heap_items c.self.inside.turns)) (sym c.in_err-push.ensures.items) c.self.invariant
-
-pub returns-clause-released : goal.returns-clause-released
-returns-clause-released c = ap length c.in_ok-push.ensures.items
-    ∙ length-append c.self.inside.left.items (c.args.work ∷ [])
-    ∙ ap (λ (q : QueueFacts). q.released + 1) c.self.view_is
-
-pub returns-clause-rises : goal.returns-clause-rises
-returns-clause-rises c = omega (
-  arith,
-  ap length c.in_ok-push.ensures.items,
-  length-append c.self.inside.left.items (c.args.work ∷ []),
-  ap (λ (q : QueueFacts). q.released) c.self.view_is,
-)
-
-pub returns-in_err-push-2-clause-rises : goal.returns-in_err-push-2-clause-rises
-returns-in_err-push-2-clause-rises c = omega (
-  arith,
-  ap length c.in_ok-push.ensures.items,
-  length-append c.self.inside.left.items (c.args.work ∷ []),
-  ap (λ (q : QueueFacts). q.released) c.self.view_is,
-)

@@ -1,6 +1,4 @@
-use Rattle.std.proofs.Common.{ap, arith, sum_by, ◌+◌, ◌≤◌, ◌⊎◌, ℕ, length, sym, subst, Option}
-use Rattle.std.proofs.lemmas.List.Sums.{sum_by-cons}
-use Rattle.clairvoyant.specs.feasible.Queue.{Kept}
+use Rattle.std.proofs.Common.{◌+◌, ◌≤◌, ◌⊎◌, ℕ, length, sym, subst, Option}
 use Rattle.clairvoyant.specs.feasible.Progress.{Stands, IsPending, with_late}
 use Rattle.clairvoyant.proofs.feasible.Running.{some_left, none_before, not_idle, ran, few_after}
 use Rattle.dover_model.proofs.valid.ValidParts.{order_parts}
@@ -42,26 +40,6 @@ returns-clause-few c =
     c.until-until.ensures _ _
     (c.leave.ensures.stays _ _ c.requires.first.is) (c.leave.ensures.goes _ _ c.requires.first.is)
     c.in_ok-add_piece.ensures.count)
-
-pub overflow_add-done : goal.overflow_add-done
-overflow_add-done c = omega (
-  arith,
-  c.requires.stands.soon,
-  c.requires.stands.few,
-  c.requires.count,
-  ap (sum_by (λ (e : Kept). e.1)) c.requires.first.is,
-  sum_by-cons (λ (e : Kept). e.1) ((c.args.job.deadline, c.args.job.number), c.args.job.left) c.requires.first.rest,
-)
-
-pub until-until-requires-clause-fits : goal.until-until-requires-clause-fits
-until-until-requires-clause-fits c = omega (
-  arith,
-  c.requires.stands.soon,
-  c.requires.stands.few,
-  c.requires.count,
-  ap (sum_by (λ (e : Kept). e.1)) c.requires.first.is,
-  sum_by-cons (λ (e : Kept). e.1) ((c.args.job.deadline, c.args.job.number), c.args.job.left) c.requires.first.rest,
-)
 
 pub returns-clause-later : goal.returns-clause-later
 returns-clause-later c = c.until-until.ensures.some

@@ -1,5 +1,5 @@
-use Rattle.std.proofs.Common.{ℕ, ◌*◌, ◌≤◌, ◌⊎◌, inl, inr, length, ◌≡◌, ◌+◌, ◌<◌, List, [], sym, subst, ap, ◌∙◌, arith}
-use Rattle.clairvoyant.specs.feasible.Progress.{IsPending, Stands, StandsAt}
+use Rattle.std.proofs.Common.{◌≡◌, ◌+◌, ◌<◌, List, [], sym, subst, ap, ◌∙◌, arith}
+use Rattle.clairvoyant.specs.feasible.Progress.{Stands, StandsAt}
 use Rattle.clairvoyant.specs.declared.feasible.simulation.Simulation.{Simulation}
 use Rattle.clairvoyant.specs.feasible.Queue.{Kept}
 use Rattle.clairvoyant.proofs.feasible.Standing.{stands_idle, stands_last, next_later}
@@ -60,37 +60,3 @@ returns-clause-later c = elim c.match-first.branch [
       c.args.self.now.late c.requires.stands w.in-Some-get.next.now
       (next_found _ _ _ _ w.released.ensures w.in-Some-get.ensures.lookup.3.0 w.in-Some-get.ensures.lookup.1))
 ]
-
-pub returns-clause-few : goal.returns-clause-few
-returns-clause-few c = elim c.match-first.branch [
-  | in-Some+in_ok-run-in-Some w ↦ few_then (length w.run.new.self.pieces.items + length w.run.new.self.queue.kept)
-      (length c.args.self.now.pieces.items + length c.args.self.now.queue.kept) w.run.new.self.queue.released
-      c.release.new.self.queue.released
-      (length c.release.new.self.pieces.items + length c.release.new.self.queue.kept)
-      (IsPending c.args.jobs.now w.run.new.self.clock w.run.new.self.queue.released)
-      (omega (arith, c.requires.few, w.in_ok-run-in-Some.ensures.released)) w.in_ok-run-in-Some.ensures.few
-      (subst (λ (x : Simulation). x.queue.released ≤ c.release.new.self.queue.released) w.self-is
-      c.in_ok-release.ensures.rises)
-      (subst (λ (x : Simulation). IsPending c.args.jobs.now x.clock x.queue.released
-      → x.queue.released < c.release.new.self.queue.released) w.self-is c.in_ok-release.ensures.moves)
-      (subst (λ (x : Simulation). length c.release.new.self.pieces.items + length c.release.new.self.queue.kept
-      + x.queue.released
-      ≤ length x.pieces.items + length x.queue.kept + c.release.new.self.queue.released) w.self-is
-      c.in_ok-release.ensures.few)
-  | in-None+in-Some-get w ↦ omega (
-    arith,
-    c.requires.few,
-    c.in_ok-release.ensures.few,
-    c.in_ok-release.ensures.rises,
-    ap (λ (x : Simulation). x.queue.released) w.self-is,
-    ap (λ (x : Simulation). length x.queue.kept) w.self-is,
-    ap (λ (x : Simulation). length x.pieces.items) w.self-is,
-  )
-] where
-  -- one more is made up for by a release
-  few_then : (held kept released now after : ℕ) (P : Type 0) → kept ≤ 2 * released
-      → (held ≤ kept) ⊎ ((held ≤ kept + 1) × P) → released ≤ now → (P → released < now)
-      → after + released ≤ held + now → after ≤ 2 * now
-  few_then held kept released now after P few (inl same) rises moves adds = omega (arith, few, same, rises, adds)
-  few_then held kept released now after P few (inr more) rises moves adds =
-      let moved = moves more.1 in let most = more.0 in omega (arith, few, most, moved, adds)
