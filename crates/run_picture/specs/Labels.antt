@@ -51,19 +51,6 @@ has_number w s = nat_le (room 1 s.number) (pixels w 0 s.release (number_end w s)
 abbrev pub number_of : Window → (y : ℕ) → Seen → Text
 number_of w y s = if has_number w s then number_at (x_at w s.release) y s.number else []
 
--- what a loss weighed, in so many pixels behind x
-abbrev pub loss_in : (x y long value against : ℕ) → Text
-loss_in x y long value against = if nat_le (room 12 value + 6 * digits_of against) long
-    then weighed_at x y value against
-    else (if nat_le (room 2 value) long then lost_at x y value else [])
-
--- the same with the job's number, which has no room before the cross
-abbrev pub named_loss_in : (x y long n value against : ℕ) → Text
-named_loss_in x y long n value against = if nat_le (room 14 n + 6 * digits_of value + 6 * digits_of against) long
-    then named_weighed_at x y n value against
-    else (if nat_le (room 5 n + 6 * digits_of value) long then named_lost_at x y n value
-    else (if nat_le (room 2 n) long then named_at x y n else []))
-
 -- a lost value, in so many pixels behind x
 abbrev pub lost_in : (x y long value : ℕ) → Text
 lost_in x y long value = if nat_le (room 2 value) long then lost_at x y value else []
@@ -72,6 +59,18 @@ lost_in x y long value = if nat_le (room 2 value) long then lost_at x y value el
 abbrev pub named_lost_in : (x y long n value : ℕ) → Text
 named_lost_in x y long n value = if nat_le (room 5 n + 6 * digits_of value) long then named_lost_at x y n value
     else (if nat_le (room 2 n) long then named_at x y n else [])
+
+-- what a loss weighed, in so many pixels behind x
+abbrev pub loss_in : (x y long value against : ℕ) → Text
+loss_in x y long value against = if nat_le (room 12 value + 6 * digits_of against) long
+    then weighed_at x y value against
+    else lost_in x y long value
+
+-- the same with the job's number, which has no room before the cross
+abbrev pub named_loss_in : (x y long n value against : ℕ) → Text
+named_loss_in x y long n value against = if nat_le (room 14 n + 6 * digits_of value + 6 * digits_of against) long
+    then named_weighed_at x y n value against
+    else named_lost_in x y long n value
 
 -- what stands behind the cross of a job that is weighed, in so many pixels behind x
 abbrev pub weighed_behind : (x y long : ℕ) → (named : Bool) → Seen → Text

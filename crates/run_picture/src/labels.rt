@@ -219,29 +219,14 @@ fn put_named_loss_in(
         ++ labels.named_loss_in x y long seen.now.number seen.now.value seen.now.against) }
 {
     let number = u64::from(seen.number);
-    let value = 6 * digits_of(seen.value);
-    if room(14, number) + value + 6 * digits_of(seen.against) <= long {
+    if room(14, number) + 6 * digits_of(seen.value) + 6 * digits_of(seen.against) <= long {
         return put(
             text,
             b"<text class='v' x='@' y='@'>@: -@ against @</text>\n",
             &[x + 6, y + 4, number, seen.value, seen.against],
         );
     }
-    if room(5, number) + value <= long {
-        return put(
-            text,
-            b"<text class='v' x='@' y='@'>@: -@</text>\n",
-            &[x + 6, y + 4, number, seen.value],
-        );
-    }
-    if room(2, number) <= long {
-        return put(
-            text,
-            b"<text x='@' y='@'>@</text>\n",
-            &[x + 6, y + 4, number],
-        );
-    }
-    Ok(())
+    put_named_lost_in(text, x, y, long, number, seen.value)
 }
 
 /// Appends what a loss weighed, in so many pixels behind x.
@@ -264,12 +249,5 @@ fn put_loss_in(
             &[x + 6, y + 4, value, against],
         );
     }
-    if room(2, value) <= long {
-        return put(
-            text,
-            b"<text class='v' x='@' y='@'>-@</text>\n",
-            &[x + 6, y + 4, value],
-        );
-    }
-    Ok(())
+    put_lost_in(text, x, y, long, value)
 }

@@ -1,5 +1,4 @@
 mod Baiting
-mod Counting
 mod Summing
 mod Turning
 pub mod Putting

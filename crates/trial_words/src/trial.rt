@@ -55,7 +55,7 @@ pub fn trial_word<P: Port, L: Ledger>(
     ) else {
         return Status::Memory;
     };
-    let Ok(text) = tally.summary(alloc, count, k) else {
+    let Ok(text) = tally.summary(alloc, k) else {
         return Status::Memory;
     };
     match put_all(port, &text) {

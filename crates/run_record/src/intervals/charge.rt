@@ -59,7 +59,7 @@ impl Charge {
         let mut book = IntervalBook::new(alloc);
         let mut totals = JobTotals::new();
         for event in run {
-            totals.add(event);
+            totals.add(&event.event());
             book.note(&under_way, event)?;
             under_way.read(alloc, event)?;
         }

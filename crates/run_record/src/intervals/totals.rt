@@ -29,7 +29,7 @@ pub struct JobTotals {
 
 impl JobTotals {
     /// Before the first step.
-    pub(crate) fn new() -> JobTotals
+    pub fn new() -> JobTotals
         ensures { result ≡ totals_of [] }
     {
         JobTotals {
@@ -50,19 +50,19 @@ impl JobTotals {
     {
         let mut totals = JobTotals::new();
         for event in run {
-            totals.add(event);
+            totals.add(&event.event());
         }
         totals
     }
 
     /// Counts one more step.
     #[inline(always)]
-    pub(crate) fn add(&mut self, event: &PackedEvent)
+    pub fn add(&mut self, event: &Event)
         requires { HasSpace self.old }
         ensures is { self.new ≡ with_step self.old event.now }
         ensures modest { self.new.worth ≤ self.old.worth + most_value }
     {
-        match event.event() {
+        match event {
             Event::Release { job, .. } => {
                 self.jobs += 1;
                 self.worth += u128::from(job.value());

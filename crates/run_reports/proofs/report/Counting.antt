@@ -13,7 +13,8 @@ use Rattle.dover_model.specs.declared.events.Event.TheVariants.{Release, Complet
 use Rattle.dover_model.specs.Common.{Fraction, JobFacts, Instance, IsValid}
 use Rattle.dover_model.specs.Common.{may_finish_early, Prints}
 use Rattle.dover_model.specs.Common.{run, printed, completed_value}
-use Rattle.dover_model.specs.Common.{bound, with_numbers, in_lines, is_take, is_preemption, summary_lines, report}
+use Rattle.dover_model.specs.Common.{bound, with_numbers, in_lines, is_take, is_preemption, summary, summary_lines}
+use Rattle.dover_model.specs.Common.{report}
 use Rattle.dover_model.specs.Common.{changes_hands, gets}
 use Rattle.dover_model.specs.Common.{served as model_served}
 use Rattle.dover_model.specs.Intervals as model
@@ -290,6 +291,12 @@ module _ (k : Fraction) (run : List Event) (J : Instance) (of : IsRunOf k run J)
   pub summary_is : (jobs : List JobFacts) (value : ℕ) → jobs ≡ jobs_released run → value ≡ completed_value J
       → counts_lines (counts_of k run jobs value) ≡ summary_lines J
   summary_is = lines_are []
+
+  -- and their text is the summary
+  pub summary_told : (counts : Counts) (value : ℕ) → counts ≡ counts_of k run (jobs_released run) value
+      → value ≡ completed_value J → in_lines (counts_lines counts) ≡ summary J
+  summary_told counts value is worth = ap (λ (c : Counts). in_lines (counts_lines c)) is
+      ∙ ap in_lines (summary_is (jobs_released run) value refl worth)
 
   -- the line of the changes of hands
   changes_are : (jobs : List JobFacts) (value : ℕ)

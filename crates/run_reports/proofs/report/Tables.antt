@@ -1,18 +1,15 @@
 -- The table of a run, put together row by row.
-use Rattle.std.proofs.Common.{◌≡◌, ℕ, zero, suc, ◌+◌, ◌-◌, ◌≤◌, ◌<◌, List, [], ◌∷◌, ◌++◌, length, map, take, drop, set}
-use Rattle.std.proofs.Common.{refl, sym, ap, ◌∙◌, Bool, true, false, cond, arith, get_or, replicate, append-nil}
-use Rattle.std.proofs.Common.{length-set, Option, Some, None, ◌==◌, nat_lt, codes, decimal, slice_index_or, filter_map}
-use Rattle.std.proofs.Common.{find, option_map, eqb-true, lt-ltb, get_or-set_same, get_or-set_other}
+use Rattle.std.proofs.Common.{◌≡◌, ℕ, ◌+◌, ◌-◌, ◌≤◌, ◌<◌, List, [], ◌∷◌, ◌++◌, length, map, drop}
+use Rattle.std.proofs.Common.{refl, sym, ap, ◌∙◌, Bool, true, false, cond, arith, get_or, append-nil}
+use Rattle.std.proofs.Common.{Option, Some, None, ◌==◌, codes, decimal, slice_index_or, filter_map}
+use Rattle.std.proofs.Common.{find, option_map}
 use Rattle.std.specs.List.{enumerate_from, join_with_byte}
-use Rattle.std.proofs.lemmas.Bool.{eqb-false}
-use Rattle.std.proofs.lemmas.List.{length-replicate, get_or-replicate, drop_all}
-use Rattle.std.proofs.Math.Seq.{take-append_seam}
+use Rattle.std.proofs.lemmas.List.{drop_all}
 use Rattle.dover_model.specs.declared.events.Event.{Event}
-use Rattle.dover_model.specs.declared.events.Event.TheVariants.{Release, Complete, Abandon}
+use Rattle.dover_model.specs.declared.events.Event.TheVariants.{Release}
 use Rattle.dover_model.specs.Common.{Fraction, JobFacts, job_numbers, Instance, in_lines, served as model_served}
 use Rattle.dover_model.specs.Common.{may_finish_early}
 use Rattle.dover_model.specs.Reports as model
-use Rattle.dover_model.proofs.lists.Members.{by_bool}
 use Rattle.run_record.specs.intervals.Rows.{IsRunOf}
 use Rattle.run_record.proofs.intervals.Counted.{item_next}
 use Rattle.run_reports.specs.report.Counts.{jobs_released}

@@ -6,7 +6,8 @@ use Rattle.dover_model.specs.Common.{JobFacts, Instance, served, Fraction}
 use Rattle.run_reports.specs.report.Counts.{jobs_released, value_lost}
 use Rattle.run_reports.proofs.report.Counting.{jobs_are}
 use Rattle.run_record.specs.intervals.Rows.{IsRunOf, weights}
-use Rattle.run_reports.specs.views.Chrome.{value_done, events_of, events_from, chrome, opening}
+use Rattle.run_reports.specs.report.Fates.{value_done}
+use Rattle.run_reports.specs.views.Chrome.{events_of, events_from, chrome, opening}
 use Rattle.run_reports.proofs.views.Stepping.{zip_next, zip_end}
 
 -- one step more

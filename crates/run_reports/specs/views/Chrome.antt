@@ -5,6 +5,7 @@ use Rattle.dover_model.specs.declared.events.Event.TheVariants.{Release, Run, Pr
 use Rattle.dover_model.specs.Common.{JobFacts, Instance, served}
 use Rattle.run_reports.specs.report.Counts.{value_in, value_lost}
 use Rattle.run_reports.specs.report.Early.{left_in}
+use Rattle.run_reports.specs.report.Fates.{value_done}
 use Rattle.run_reports.specs.views.Moments.{moments}
 use Rattle.run_reports.specs.views.Templates.{Text, filled}
 
@@ -67,11 +68,6 @@ abbrev pub summed : (at done lost : ℕ) → Text
 summed at done lost = filled summed_line (at ∷ done ∷ lost ∷ [])
 
 -- ---- the run
-
--- the value that a step completes
-abbrev pub value_done : List JobFacts → Event → ℕ
-value_done jobs (Complete at n) = value_in jobs n
-value_done jobs _ = 0
 
 -- the events of a step, after which so much value is completed and lost, where the jobs under way were worth so much,
 -- and the jobs have had so many ticks at the end

@@ -9,7 +9,7 @@ ghost use Rattle.run_reports.specs.report.Counts.{job_released, jobs_released, v
 
 use dover_model::{Event, Job, Memory, PackedEvent, Ratio};
 use root_compare::long_bound;
-use run_record::intervals::Charge;
+use run_record::intervals::{Charge, JobTotals};
 use std::alloc::Global;
 
 /// What a report says of a run: counts of jobs and of changes of hands, and sums of values.
@@ -42,8 +42,16 @@ pub fn count(k: Ratio, charge: &Charge) -> Counts
     ensures { (run : List PrintedStep) (J : Instance) → IsRunOf k run J → charge.now.totals ≡ totals_of run
         → charge.now.value ≡ completed_value J → result ≡ counts_of k run (jobs_released run) charge.now.value }
 {
-    let totals = charge.totals();
-    let value = charge.value();
+    count_by(k, charge.totals(), charge.value())
+}
+
+/// The same by what the steps of the run tell of its jobs, and the value that it completes.
+pub fn count_by(k: Ratio, totals: JobTotals, value: u64) -> Counts
+    requires { (run : List PrintedStep) × (J : Instance) × IsRunOf k run J × (totals ≡ totals_of run)
+        × (value ≡ completed_value J) }
+    ensures { (run : List PrintedStep) (J : Instance) → IsRunOf k run J → totals ≡ totals_of run
+        → value ≡ completed_value J → result ≡ counts_of k run (jobs_released run) value }
+{
     Counts {
         jobs: totals.jobs,
         completed: totals.completed,

@@ -89,8 +89,15 @@ pub fn summary(alloc: Global, k: Ratio, run: &[PackedEvent]) -> Result<Vec<u8>, 
     ensures { (J : Instance) → IsRunOf k run.now J → IfOk result (λ text. text.items ≡ summary J) }
 {
     let charge = Charge::of(alloc, k, run)?;
+    counts_text(alloc, count(k, &charge))
+}
+
+/// The summary that says these counts.
+pub fn counts_text(alloc: Global, counts: Counts) -> Result<Vec<u8>, Memory>
+    ensures { IfOk result (λ text. text.items ≡ in_lines (counts_lines counts)) }
+{
     let mut text = Vec::new(alloc);
-    put_counts(&mut text, count(k, &charge))?;
+    put_counts(&mut text, counts)?;
     Ok(text)
 }
 

@@ -1,12 +1,11 @@
 //! A run as events for a viewer of traces.
 ghost use Rattle.std.specs.Prelude.{◌≡◌, ◌≤◌, ◌++◌, ◌∷◌, [], ◌+◌, ◌*◌, length, OnOk, IfOk, codes, zip};
 ghost use Rattle.run_record.specs.intervals.Rows.{IsRunOf};
-ghost use Rattle.dover_model.specs.Common.{Instance, most_value};
-ghost use Rattle.run_reports.specs.report.Counts as counts;
+ghost use Rattle.dover_model.specs.Instance.{Instance};
 ghost use Rattle.run_reports.specs.views.Chrome as events;
 ghost use Rattle.run_reports.specs.views.Templates.{filled};
 
-use crate::report::{had_of, left_of, released, value_of};
+use crate::report::{done_at, had_of, left_of, lost_at, released, value_of};
 use crate::views::template::put;
 use dover_model::{Event, Job, Memory, PackedEvent, Ratio};
 use run_record::ledger::{served, weights};
@@ -48,34 +47,12 @@ fn put_events(
     let mut done = 0;
     let mut lost = 0;
     for (index, event) in run.iter().enumerate() {
-        done += value_done(jobs, event);
-        lost += value_lost(jobs, event);
+        done += done_at(jobs, event);
+        lost += lost_at(jobs, event);
         put_event(text, jobs, served, event, done, lost, worths[index])?;
     }
     text.extend_from_slice(b"]}\n")?;
     Ok(())
-}
-
-/// The value that a step completes.
-fn value_done(jobs: &[Job], event: &PackedEvent) -> u64
-    ensures is { result ≡ events.value_done jobs.now event.now }
-    ensures modest { result ≤ most_value }
-{
-    match event.event() {
-        Event::Complete { number, .. } => value_of(jobs, number),
-        _ => 0,
-    }
-}
-
-/// The value that a step abandons.
-fn value_lost(jobs: &[Job], event: &PackedEvent) -> u64
-    ensures is { result ≡ counts.value_lost jobs.now event.now }
-    ensures modest { result ≤ most_value }
-{
-    match event.event() {
-        Event::Abandon { number, .. } => value_of(jobs, number),
-        _ => 0,
-    }
 }
 
 /// Appends the events of a step.

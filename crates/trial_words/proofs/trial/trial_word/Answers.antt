@@ -1,4 +1,4 @@
-use Rattle.std.proofs.Common.{◌≡◌, ◌≤◌, ◌∷◌, [], ℕ, List, length, refl, sym, ap, ◌∙◌, subst, inl, inr, append-nil}
+use Rattle.std.proofs.Common.{◌≡◌, ◌≤◌, ◌∷◌, [], ℕ, List, refl, sym, ◌∙◌, subst, inl, inr, append-nil}
 use Rattle.dover_model.specs.Common.{Fraction, IsRatio, generated_jobs, IsValid, jobs_under, JobFacts, most_jobs}
 use Rattle.dover_model.specs.Common.{summary, printed, CostsAtMost}
 use Rattle.dover_model.specs.declared.events.Version.TheVariants.{One, Two}
@@ -8,31 +8,36 @@ use Rattle.dover_port.specs.declared.status.Status.TheVariants.{Done, WriteFault
 use Rattle.dover_port.proofs.Made.{since_none}
 use Rattle.stated_jobs.proofs.trial.Drawn.{valid}
 use Rattle.trial_words.specs.Lists.{trial_instance}
-use Rattle.trial_words.specs.Tallied.{HasCounted, CountsRun}
+use Rattle.run_record.specs.intervals.Rows.{IsRunOf}
+use Rattle.trial_words.specs.Tallied.{HasCounted}
 use Rattle.trial_words.specs.declared.tally.RunTally.{RunTally}
 use Rattle.trial_words.proofs.Summing.{of_text}
 use Rattle.trial_words.proofs.trial.trial_word.Goals as goal
 
 -- the run of the jobs of a seed was counted
-counted : (seed count : ℕ) (k : Fraction) (jobs : List JobFacts) (tally : RunTally) → IsRatio k → count ≤ most_jobs Two
-    → jobs ≡ generated_jobs seed count k → length jobs ≡ count → HasCounted tally (printed (jobs_under One k jobs))
-    → CountsRun (trial_instance k seed count) k count tally
-counted seed count k jobs tally ratio few is size seen = record {
+counted : (seed count : ℕ) (k : Fraction) (jobs : List JobFacts) (tally : RunTally) → jobs ≡ generated_jobs seed count k
+    → HasCounted tally (printed (jobs_under One k jobs)) → HasCounted tally (printed (trial_instance k seed count))
+counted seed count k jobs tally is seen = subst (λ js. HasCounted tally (printed (jobs_under One k js))) is seen
+
+-- and it is one
+own_run : (seed count : ℕ) (k : Fraction) → IsRatio k → count ≤ most_jobs Two
+    → IsRunOf k (printed (trial_instance k seed count)) (trial_instance k seed count)
+own_run seed count k ratio few = record {
   valid = valid k ratio seed count One few;
   listable = listable (trial_instance k seed count) (valid k ratio seed count One few) refl;
   ratio = refl;
-  size = ap length (sym is) ∙ size;
-  counted = subst (λ js. HasCounted tally (printed (jobs_under One k js))) is seen;
+  prints = refl;
 }
 
 pub run_list-requires-clause-valid : goal.run_list-requires-clause-valid
 run_list-requires-clause-valid g c = subst (λ js. IsValid (jobs_under One c.args.k js)) (sym c.new.ensures.jobs)
     (valid c.args.k c.p.ensures.ratio c.args.seed c.args.count One c.requires.count)
 
-pub summary-requires-clause-run : goal.summary-requires-clause-run
-summary-requires-clause-run g c = (
+pub summary-requires : goal.summary-requires
+summary-requires g c = (
   trial_instance c.args.k c.args.seed c.args.count,
-  counted _ _ _ _ _ c.p.ensures.ratio c.requires.count c.new.ensures.jobs c.new.ensures.count c.in-Ok.ensures.seen,
+  own_run c.args.seed c.args.count c.args.k c.p.ensures.ratio c.requires.count,
+  counted _ _ _ _ _ c.new.ensures.jobs c.in-Ok.ensures.seen,
 )
 
 pub returns-in_default-clause-writes : goal.returns-in_default-clause-writes
@@ -44,7 +49,8 @@ returns-in_default-summary-clause-writes g c = since_none _ _ refl
 pub returns-in-Ok-put_all-clause-writes : goal.returns-in-Ok-put_all-clause-writes
 returns-in-Ok-put_all-clause-writes g c = of_text _ _ Done _ _
     (c.deref.ensures.value ∙ c.in-Ok-summary.ensures (trial_instance c.args.k c.args.seed c.args.count)
-    (counted _ _ _ _ _ c.p.ensures.ratio c.requires.count c.new.ensures.jobs c.new.ensures.count c.in-Ok.ensures.seen))
+    (own_run c.args.seed c.args.count c.args.k c.p.ensures.ratio c.requires.count)
+    (counted _ _ _ _ _ c.new.ensures.jobs c.in-Ok.ensures.seen))
     c.in-Ok-put_all.ensures.text.all
 
 pub returns-in-Ok-put_all-clause-ends : goal.returns-in-Ok-put_all-clause-ends
@@ -54,7 +60,8 @@ returns-in-Ok-put_all-clause-ends g c =
 pub returns-clause-writes : goal.returns-clause-writes
 returns-clause-writes g c = of_text _ _ WriteFault _ _
     (c.deref.ensures.value ∙ c.in-Ok-summary.ensures (trial_instance c.args.k c.args.seed c.args.count)
-    (counted _ _ _ _ _ c.p.ensures.ratio c.requires.count c.new.ensures.jobs c.new.ensures.count c.in-Ok.ensures.seen))
+    (own_run c.args.seed c.args.count c.args.k c.p.ensures.ratio c.requires.count)
+    (counted _ _ _ _ _ c.new.ensures.jobs c.in-Ok.ensures.seen))
     c.in-Err.ensures.text.part
 
 pub returns-in_default-clause-ends : goal.returns-in_default-clause-ends

@@ -1,7 +1,7 @@
-use Rattle.std.proofs.Common.{◌++◌, ap, ◌∙◌, refl}
-use Rattle.dover_model.specs.Lines.{in_lines}
-use Rattle.run_reports.specs.report.Counts.{counts_lines, jobs_released}
-use Rattle.run_reports.proofs.report.Counting.{summary_is}
+use Rattle.std.proofs.Common.{◌≡◌, subst, IfOk}
+use Rattle.dover_model.specs.Common.{in_lines, summary}
+use Rattle.run_reports.specs.report.Counts.{counts_lines}
+use Rattle.run_reports.proofs.report.Counting.{summary_told}
 use Rattle.run_reports.proofs.report.report.summary.Goals as goal
 
 pub count-requires : goal.count-requires
@@ -14,10 +14,9 @@ count-requires c = (
 )
 
 pub returns : goal.returns
-returns c J of = c.in_ok-put_counts.ensures
-    ∙ ap (λ x. x ++ in_lines (counts_lines c.count.result)) c.new-text.ensures.items
-    ∙ ap (λ n. in_lines (counts_lines n)) (c.count.ensures c.args.run.now J of c.in_ok-charge.ensures.totals
-    (c.in_ok-charge.ensures.value J of))
-    ∙ ap in_lines (summary_is c.args.k c.args.run.now J of (jobs_released c.args.run.now) c.in_ok-charge.charge.value
-    refl
-    (c.in_ok-charge.ensures.value J of))
+returns c J of =
+    let value = c.in_ok-charge.ensures.value J of in
+    let told : in_lines (counts_lines c.count.result) ≡ summary J = summary_told c.args.k c.args.run.now J of
+    c.count.result c.in_ok-charge.charge.value (c.count.ensures c.args.run.now J of c.in_ok-charge.ensures.totals value)
+    value in
+    subst (λ t. IfOk c.counts_text.result (λ text. text.items ≡ t)) told c.counts_text.ensures

@@ -14,14 +14,14 @@ loop-index-preserved c =
       is = viewed_more c.args.jobs.now c.args.served.now c.args.run.now c.args.worths.now c.loop-index.index
           c.index-run-index.result
           worth c.loop-index.done
-          c.loop-index.lost c.value_done-done.result c.value_lost-lost.result c.loop-index.text.items
+          c.loop-index.lost c.done_at-done.result c.lost_at-lost.result c.loop-index.text.items
           c.put_event.new.text.items _
           c.index-run-index.is (get_or_default c.args.worths.now c.loop-index.index 0 worth there)
           c.loop-index-test.true c.requires.same
-          c.value_done-done.ensures.is c.value_lost-lost.ensures.is c.in_ok-put_event.ensures
+          c.done_at-done.ensures.is c.lost_at-lost.ensures.is c.in_ok-put_event.ensures
           c.loop-index.invariant.is;
-      few_done = omega (arith, c.loop-index.invariant.few_done, c.value_done-done.ensures.modest);
-      few_lost = omega (arith, c.loop-index.invariant.few_lost, c.value_lost-lost.ensures.modest);
+      few_done = omega (arith, c.loop-index.invariant.few_done, c.done_at-done.ensures.modest);
+      few_lost = omega (arith, c.loop-index.invariant.few_lost, c.lost_at-lost.ensures.modest);
     }
 
 pub returns : goal.returns

@@ -1,21 +1,16 @@
-use Rattle.std.proofs.Common.{◌∙◌, sym, subst}
-use Rattle.dover_model.specs.Run.{printed}
-use Rattle.trial_words.specs.Tallied.{CountsRun}
-use Rattle.trial_words.proofs.Summing.{within, told, in_template, counts_by, appended}
+use Rattle.std.proofs.Common.{◌≡◌, subst, IfOk}
+use Rattle.dover_model.specs.Common.{in_lines, printed, summary}
+use Rattle.run_reports.specs.report.Counts.{counts_lines}
+use Rattle.run_reports.proofs.report.Counting.{summary_told}
 use Rattle.trial_words.proofs.tally.RunTally.summary.Goals as goal
 
-pub lost-requires : goal.lost-requires
-lost-requires c = (c.requires.run.0, c.args.k, c.args.jobs, c.requires.run.1)
-
-pub bound-requires : goal.bound-requires
-bound-requires c = record {
-  completed = within c.requires.run.0 c.args.k c.args.jobs c.args.self.now c.requires.run.1;
-  plain = c.requires.plain;
-}
+pub count_by-requires : goal.count_by-requires
+count_by-requires c =
+    (printed c.requires.0, c.requires.0, c.requires.1, c.requires.2.totals, c.requires.2.value)
 
 pub returns : goal.returns
-returns c J it = appended _ _ _ c.new-text.ensures.items c.in_ok-put.ensures
-    ∙ in_template (counts_by c.from.result c.args.self.now (printed J) _ c.bound.result)
-    ∙ told J c.args.k c.from.result c.args.self.now
-    (subst (λ n. CountsRun J c.args.k n c.args.self.now) (sym c.from.ensures) it) _ c.bound.result c.lost.ensures
-    c.bound.ensures.is
+returns c J of counted =
+    let told : in_lines (counts_lines c.count_by.result) ≡ summary J = summary_told c.args.k (printed J) J of
+    c.count_by.result c.args.self.now.value (c.count_by.ensures (printed J) J of counted.totals counted.value)
+    counted.value in
+    subst (λ t. IfOk c.counts_text.result (λ text. text.items ≡ t)) told c.counts_text.ensures

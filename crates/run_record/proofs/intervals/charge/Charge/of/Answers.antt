@@ -1,7 +1,7 @@
 use Rattle.std.proofs.Common.{◌≡◌, arith, ap, ◌∙◌, take_all}
 use Rattle.dover_model.specs.Common.{Instance, completed_value}
 use Rattle.run_record.specs.intervals.Rows.{IsRunOf, rows_of}
-use Rattle.run_record.specs.intervals.Totals.{totals_of}
+use Rattle.run_record.specs.intervals.Totals.{totals_of, with_step}
 use Rattle.run_record.specs.declared.intervals.totals.JobTotals.{JobTotals}
 use Rattle.run_record.proofs.intervals.Counted.{totals_fit, totals_on}
 use Rattle.run_record.proofs.intervals.Reading.{all_charged, none_charged, one_charged}
@@ -37,7 +37,8 @@ loop-event-preserved c = record {
       c.loop-event.event-index c.event-item.result c.event-item.is c.loop-event-test.true
       (c.loop-event.invariant.charges J of) _ _ c.in_ok-read.ensures c.in_ok-note.ensures;
   counted = totals_on c.args.run.now c.loop-event.event-index c.event-item.result c.loop-event.totals _
-      c.event-item.is c.loop-event-test.true c.loop-event.invariant.counted c.add.ensures.is c.add.ensures.modest;
+      c.event-item.is c.loop-event-test.true c.loop-event.invariant.counted
+      (c.add.ensures.is ∙ ap (with_step c.loop-event.totals) c.event.ensures) c.add.ensures.modest;
 }
 
 pub returns-clause-totals : goal.returns-clause-totals

@@ -1,1 +1,0 @@
--- What is counted with one step more.
