@@ -1,5 +1,5 @@
 -- The labels of tasks, one by one, and what is drawn of the jobs of tasks.
-use Rattle.std.proofs.Common.{◌≡◌, ℕ, suc, ◌+◌, ◌≤◌, ◌<◌, List, [], ◌∷◌, ◌++◌, length, map, drop, get_or, sym, ap, ◌∙◌}
+use Rattle.std.proofs.Common.{◌≡◌, ℕ, ◌+◌, ◌≤◌, ◌<◌, List, [], ◌∷◌, ◌++◌, length, map, drop, get_or, sym, ap, ◌∙◌}
 use Rattle.std.proofs.Common.{add-one, append-nil, append_assoc, drop-cons, Option}
 use Rattle.std.proofs.lemmas.List.{drop_all, map-append}
 use Rattle.dover_model.specs.Common.{Instance, JobFacts}

@@ -1,15 +1,14 @@
 -- What the word says of a schedule: its laws, and what is put at the end.
-use Rattle.std.proofs.Common.{◌≡◌, ◌<◌, ◌^◌, ◌-◌, ℕ, List, ◌++◌, [], length, refl, sym, ap, ◌∙◌, subst, arith, Bool}
-use Rattle.std.proofs.Common.{true, false, Option, Result, Ok, Err}
-use Rattle.dover_model.specs.declared.events.Event.{Event}
+use Rattle.std.proofs.Common.{◌≡◌, ◌<◌, ◌^◌, ◌-◌, ℕ, List, [], length, refl, sym, ap, ◌∙◌, subst, arith, Bool}
+use Rattle.std.proofs.Common.{true, Option, Ok, Err}
 use Rattle.dover_port.specs.Moves.{Move, Passes, CutsShort}
 use Rattle.dover_port.specs.declared.status.Status.{Status}
-use Rattle.dover_port.specs.declared.status.Status.TheVariants.{Done, No, Refused}
+use Rattle.dover_port.specs.declared.status.Status.TheVariants.{Done}
 use Rattle.dialogue.specs.Talk.{IsSteady, IsFinal, IsOver}
 use Rattle.dialogue.specs.Turns.{AnswersBy}
 use Rattle.dialogue.specs.declared.talker.Stop.{Stop}
 use Rattle.dialogue.specs.declared.talker.Stop.TheVariants.{NoMemory, Unwritten}
-use Rattle.schedule_judge.specs.Account.{Account, account, is_open, goes_on}
+use Rattle.schedule_judge.specs.Account.{account, is_open, goes_on}
 use Rattle.schedule_judge.specs.Keeping.{Reads, IsClosed}
 use Rattle.schedule_judge.specs.declared.intake.Standing.{Standing}
 use Rattle.schedule_judge.specs.declared.intake.Standing.TheVariants.{Open, Ended, Wrong, TooMany}

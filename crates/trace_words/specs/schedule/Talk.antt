@@ -1,5 +1,5 @@
 -- What a word says that reports on a schedule, by the bytes got so far.
-use Rattle.std.specs.Prelude.{◌≡◌, ℕ, List, [], ◌∷◌, ◌++◌, Bool, false, codes, decimal}
+use Rattle.std.specs.Prelude.{◌≡◌, ℕ, List, [], ◌∷◌, ◌++◌, false, codes, decimal}
 use Rattle.dover_model.specs.declared.events.Event.{Event}
 use Rattle.dover_model.specs.Lines.{line_of, with_numbers}
 use Rattle.dover_port.specs.declared.status.Status.{Status}

@@ -1,4 +1,4 @@
-use Rattle.std.proofs.Common.{◌∙◌, ◌+◌, ap, arith, sum_by, take, take_all}
+use Rattle.std.proofs.Common.{◌∙◌, ◌+◌, ap, arith, sum_by, take}
 use Rattle.run_record.proofs.intervals.Counted.{sum_more}
 use Rattle.run_reports.specs.report.Counts.{value_lost, all_lost}
 use Rattle.run_reports.specs.report.Fates.{value_done}

@@ -1,6 +1,5 @@
 use Rattle.std.proofs.Common.{refl}
 use Rattle.dover_port.proofs.Made.{since_weaker}
-use Rattle.trace_words.specs.schedule.Keeping.{Asked, Stands}
 use Rattle.trace_words.proofs.schedule.word.schedule_word.Goals as goal
 
 pub converse-requires : goal.converse-requires
