@@ -31,27 +31,6 @@ fn above_zero(byte: u8) -> u64
     u64::from(byte).wrapping_sub(u64::from(b'0'))
 }
 
-/// The number that the digits in front of at most 18 bytes write, and how many they are.
-#[inline(always)]
-fn digits_in_front(text: &[u8]) -> (u64, usize)
-    requires { length text.now ≤ 18 }
-    ensures within { result.1 ≤ length text.now }
-    ensures digits { all_ascii_digits (take result.1 text.now) ≡ true }
-    ensures all { result.1 < length text.now → is_ascii_digit (get_or text.now result.1 0) ≡ false }
-    ensures number { result.0 ≡ model.number_onto 0 (take result.1 text.now) }
-    ensures short { result.0 < 10 ^ 18 }
-{
-    let mut number = 0u64;
-    for (at, byte) in text.iter().enumerate() {
-        let digit = above_zero(*byte);
-        if digit > 9 {
-            return (number, at);
-        }
-        number = 10 * number + digit;
-    }
-    (number, text.len())
-}
-
 /// The number that the digits in front write, and how many they are. None where they are more than a numeral may have.
 #[inline(always)]
 fn leading_digits(text: &[u8]) -> Option<(u64, usize)>
@@ -64,14 +43,18 @@ fn leading_digits(text: &[u8]) -> Option<(u64, usize)>
     ensures room { IfNone result (18 < length text.now) }
     ensures many { IfNone result (all_ascii_digits (take 19 text.now) ≡ true) }
 {
-    if text.len() <= MOST_DIGITS {
-        return Some(digits_in_front(text));
+    let mut number = 0u64;
+    for (at, byte) in text.iter().enumerate() {
+        let digit = above_zero(*byte);
+        if digit > 9 {
+            return Some((number, at));
+        }
+        if at == MOST_DIGITS {
+            return None;
+        }
+        number = 10 * number + digit;
     }
-    let (number, digits) = digits_in_front(&text[..MOST_DIGITS]);
-    if digits == MOST_DIGITS && above_zero(text[MOST_DIGITS]) <= 9 {
-        return None;
-    }
-    Some((number, digits))
+    Some((number, text.len()))
 }
 
 /// The number that the bytes spell: 1 to 18 digits, with no leading zero except `0` itself.

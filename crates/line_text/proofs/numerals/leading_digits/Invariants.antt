@@ -1,7 +1,7 @@
 use Rattle.std.proofs.Common.{◌≡◌, ◌<◌, ◌≤◌, ◌^◌, take, true}
 use Rattle.std.specs.Str.{all_ascii_digits}
 use Rattle.dover_model.specs.Numerals as model
-use Rattle.line_text.proofs.numerals.digits_in_front.Given as goal
+use Rattle.line_text.proofs.numerals.leading_digits.Given as goal
 
 -- the bytes so far are digits, not more than a numeral has, and write the number
 abbrev pub invariant-loop-at : goal.invariant-loop-at
