@@ -16,7 +16,8 @@ returns-in-Ok-put_report-clause-tells g c = λ trace S valid accepted are.
 
 pub returns-clause-tells : goal.returns-clause-tells
 returns-clause-tells g c = λ trace S valid accepted are.
-    told_cut c.args.tasks.now trace S valid accepted c.deref.result.now (c.deref.ensures.value ∙ are) _ _ c.put_report.new.out
+    told_cut c.args.tasks.now trace S valid accepted c.deref.result.now (c.deref.ensures.value ∙ are) _ _
+    c.put_report.new.out
     (rw c.requires.empty at (c.in-Err.ensures.text c.deref.result.now c.in-Ok.ensures).part)
 
 pub returns-in_default-clause-cause : goal.returns-in_default-clause-cause
