@@ -113,13 +113,31 @@ impl Admission {
         let Some(job) = Job::new(release, work, deadline, value) else {
             return Err(Refused::BadJob);
         };
-        if deadline > self.version.last_tick() {
+        self.check_job(job)
+    }
+
+    /// The job, where it may be admitted next.
+    ///
+    /// # Errors
+    ///
+    /// The first cause, of those of `Refused` in their order, for which it may not. `BadJob` is one that is due behind
+    /// the version's last tick.
+    #[inline(always)]
+    pub fn check_job(&self, job: Job) -> Result<Job, Refused>
+        ensures job { IfOk result (λ checked. checked ≡ job) }
+        ensures room { IfOk result (λ checked. HasRoom self.now checked) }
+        ensures refusal { (jobs : List JobFacts) → StandsFor self.now jobs →
+            refusal_of self.now.rules jobs job ≡ refusal_in result }
+        ensures other { (jobs : List JobFacts) → StandsFor self.now jobs →
+            IfErr result (λ refused. NamesOther self.now.rules.ratio jobs job refused) }
+    {
+        if job.deadline() > self.version.last_tick() {
             return Err(Refused::BadJob);
         }
         if self.count >= self.version.most_jobs() {
             return Err(Refused::Count);
         }
-        if self.version.most_total() - self.total < value {
+        if self.version.most_total() - self.total < job.value() {
             return Err(Refused::Total);
         }
         match self.breaker(&job) {

@@ -17,8 +17,7 @@ fn is_plain(text: &[u8]) -> bool
 {
     match text {
         [] => false,
-        [_] => true,
-        [first, ..] => *first != b'0',
+        [first, rest @ ..] => *first != b'0' || rest.is_empty(),
     }
 }
 

@@ -345,10 +345,7 @@ impl TraceReader {
         if !self.has_room() {
             return false;
         }
-        let checked = self
-            .admission
-            .check(job.release(), job.work(), job.deadline(), job.value());
-        checked.is_ok()
+        self.admission.check_job(*job).is_ok()
     }
 
     // Room for a job more. Where there is none left, it is asked for more of them at once, if memory has it.

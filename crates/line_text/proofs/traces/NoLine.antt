@@ -38,11 +38,11 @@ no_three_or_five (a ∷ b ∷ c ∷ []) other more = absurd (other refl)
 no_three_or_five (a ∷ b ∷ c ∷ d ∷ e ∷ []) other more = absurd (more refl)
 no_three_or_five _ other more = refl
 
-pub no_release : (o : Option (List ℕ)) → IsNot 5 o → None ≡ option_and_then release_of o
-no_release = uncounted release_of 5 not_five
+pub no_release : (o : Option (List ℕ)) → IsNot 5 o → None ≡ option_map Step (option_and_then release_of o)
+no_release o other = ap (option_map Step) (uncounted release_of 5 not_five o other)
 
-pub no_end : (o : Option (List ℕ)) → IsNot 1 o → None ≡ option_and_then end_of o
-no_end = uncounted end_of 1 not_one
+pub no_end : (o : Option (List ℕ)) → IsNot 1 o → None ≡ option_map Step (option_and_then end_of o)
+no_end o other = ap (option_map Step) (uncounted end_of 1 not_one o other)
 
 pub no_header : (o : Option (List ℕ)) → IsNot 3 o → IsNot 5 o → None ≡ option_and_then header_of o
 no_header None other more = refl
@@ -59,20 +59,20 @@ two_step : (step : ℕ → ℕ → ℕ → Event) (o : Option (List ℕ)) → Is
 two_step step = uncounted (λ ns. two_jobs ns >>= λ f. Some (step f.0 f.1 f.2)) 3
     (λ ns other. ap (λ o. o >>= λ f. Some (step f.0 f.1 f.2)) (not_three ns other))
 
-pub no_run : (o : Option (List ℕ)) → IsNot 2 o → None ≡ option_and_then run_of o
-no_run = one_step Run
+pub no_run : (o : Option (List ℕ)) → IsNot 2 o → None ≡ option_map Step (option_and_then run_of o)
+no_run o other = ap (option_map Step) (one_step Run o other)
 
-pub no_complete : (o : Option (List ℕ)) → IsNot 2 o → None ≡ option_and_then complete_of o
-no_complete = one_step Complete
+pub no_complete : (o : Option (List ℕ)) → IsNot 2 o → None ≡ option_map Step (option_and_then complete_of o)
+no_complete o other = ap (option_map Step) (one_step Complete o other)
 
-pub no_abandon : (o : Option (List ℕ)) → IsNot 2 o → None ≡ option_and_then abandon_of o
-no_abandon = one_step Abandon
+pub no_abandon : (o : Option (List ℕ)) → IsNot 2 o → None ≡ option_map Step (option_and_then abandon_of o)
+no_abandon o other = ap (option_map Step) (one_step Abandon o other)
 
-pub no_preempt : (o : Option (List ℕ)) → IsNot 3 o → None ≡ option_and_then preempt_of o
-no_preempt = two_step Preempt
+pub no_preempt : (o : Option (List ℕ)) → IsNot 3 o → None ≡ option_map Step (option_and_then preempt_of o)
+no_preempt o other = ap (option_map Step) (two_step Preempt o other)
 
-pub no_take : (o : Option (List ℕ)) → IsNot 3 o → None ≡ option_and_then take_of o
-no_take = two_step Take
+pub no_take : (o : Option (List ℕ)) → IsNot 3 o → None ≡ option_map Step (option_and_then take_of o)
+no_take o other = ap (option_map Step) (two_step Take o other)
 
 -- ---- the word
 

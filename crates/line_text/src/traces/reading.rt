@@ -13,7 +13,7 @@ use crate::traces::steps::{
     abandon_of, complete_of, end_of, preempt_of, release_of, run_of, take_of,
 };
 use crate::{BadLine, behind_word, cut_field, first_number, numbers_in};
-use dover_model::{Event, Refusal};
+use dover_model::Refusal;
 
 /// A header, of three numbers, or of five.
 fn header_with(numbers: &[u64]) -> Option<TraceLine>
@@ -46,16 +46,6 @@ fn header_of(fields: &[u8]) -> Option<TraceLine>
     }
     let numbers = numbers_in::<5>(fields)?;
     header_with(&numbers)
-}
-
-/// The line of a step.
-fn line_of_step(step: Option<Event>) -> Option<TraceLine>
-    ensures { result ≡ option_map Step step }
-{
-    match step {
-        Some(step) => Some(TraceLine::Step(step)),
-        None => None,
-    }
 }
 
 /// The number that the first field left spells, and what is left behind it.
@@ -162,28 +152,28 @@ fn line_of(line: &[u8]) -> Option<TraceLine>
     ensures { result ≡ model.line_of_fields (fields_of line.now) }
 {
     if let Some(fields) = behind_word(line, b"job") {
-        return line_of_step(release_of(fields));
+        return release_of(fields);
     }
     if let Some(fields) = behind_word(line, b"run") {
-        return line_of_step(run_of(fields));
+        return run_of(fields);
     }
     if let Some(fields) = behind_word(line, b"complete") {
-        return line_of_step(complete_of(fields));
+        return complete_of(fields);
     }
     if let Some(fields) = behind_word(line, b"preempt") {
-        return line_of_step(preempt_of(fields));
+        return preempt_of(fields);
     }
     if let Some(fields) = behind_word(line, b"abandon") {
-        return line_of_step(abandon_of(fields));
+        return abandon_of(fields);
     }
     if let Some(fields) = behind_word(line, b"take") {
-        return line_of_step(take_of(fields));
+        return take_of(fields);
     }
     if let Some(fields) = behind_word(line, b"refuse") {
         return refusal_of(fields);
     }
     if let Some(fields) = behind_word(line, b"end") {
-        return line_of_step(end_of(fields));
+        return end_of(fields);
     }
     if let Some(fields) = behind_word(line, b"dover") {
         return header_of(fields);

@@ -1,9 +1,11 @@
-//! A printed step from a word and numbers.
-ghost use Rattle.std.specs.Prelude.{◌≡◌, option_and_then};
+//! The line of a printed step from a word and numbers.
+ghost use Rattle.std.specs.Prelude.{◌≡◌, option_and_then, option_map};
 ghost use Rattle.dover_model.specs.Common.{fields_of, numerals};
+ghost use Rattle.line_text.specs.declared.traces.lines.TraceLine.TheVariants.{Step};
 ghost use Rattle.line_text.specs.traces.Reading as model;
 
 use crate::numbers_in;
+use crate::traces::lines::TraceLine;
 use dover_model::{Event, Job};
 
 /// The greatest number of a job.
@@ -25,15 +27,15 @@ fn new_job(release: u64, work: u64, deadline: u64, value: u64) -> Option<Job>
 }
 
 /// A release, of a number and a job's four numbers.
-fn release_with(numbers: &[u64]) -> Option<Event>
-    ensures { result ≡ model.release_of numbers.now }
+fn release_with(numbers: &[u64]) -> Option<TraceLine>
+    ensures { result ≡ option_map Step (model.release_of numbers.now) }
 {
     let [number, release, work, deadline, value] = numbers else {
         return None;
     };
     let number = job_number(*number)?;
     let job = new_job(*release, *work, *deadline, *value)?;
-    Some(Event::Release { number, job })
+    Some(TraceLine::Step(Event::Release { number, job }))
 }
 
 /// A clock and the number of one job.
@@ -60,11 +62,11 @@ fn two_jobs(numbers: &[u64]) -> Option<(u64, u32, u32)>
 }
 
 /// The end, of a value.
-fn end_with(numbers: &[u64]) -> Option<Event>
-    ensures { result ≡ model.end_of numbers.now }
+fn end_with(numbers: &[u64]) -> Option<TraceLine>
+    ensures { result ≡ option_map Step (model.end_of numbers.now) }
 {
     match numbers {
-        [value] => Some(Event::End { value: *value }),
+        [value] => Some(TraceLine::Step(Event::End { value: *value })),
         _ => None,
     }
 }
@@ -72,8 +74,8 @@ fn end_with(numbers: &[u64]) -> Option<Event>
 /// The release that fields spell behind its word.
 #[inline(always)]
 #[tactic(auto, using(crate::proofs::traces::NoLine::no_release))]
-pub fn release_of(fields: &[u8]) -> Option<Event>
-    ensures { result ≡ option_and_then model.release_of (numerals (fields_of fields.now)) }
+pub fn release_of(fields: &[u8]) -> Option<TraceLine>
+    ensures { result ≡ option_map Step (option_and_then model.release_of (numerals (fields_of fields.now))) }
 {
     let numbers = numbers_in::<5>(fields)?;
     release_with(&numbers)
@@ -82,8 +84,8 @@ pub fn release_of(fields: &[u8]) -> Option<Event>
 /// The end that fields spell behind its word.
 #[inline(always)]
 #[tactic(auto, using(crate::proofs::traces::NoLine::no_end))]
-pub fn end_of(fields: &[u8]) -> Option<Event>
-    ensures { result ≡ option_and_then model.end_of (numerals (fields_of fields.now)) }
+pub fn end_of(fields: &[u8]) -> Option<TraceLine>
+    ensures { result ≡ option_map Step (option_and_then model.end_of (numerals (fields_of fields.now))) }
 {
     let numbers = numbers_in::<1>(fields)?;
     end_with(&numbers)
@@ -92,54 +94,54 @@ pub fn end_of(fields: &[u8]) -> Option<Event>
 /// The run that fields spell behind its word.
 #[inline(always)]
 #[tactic(auto, using(crate::proofs::traces::NoLine::no_run))]
-pub fn run_of(fields: &[u8]) -> Option<Event>
-    ensures { result ≡ option_and_then model.run_of (numerals (fields_of fields.now)) }
+pub fn run_of(fields: &[u8]) -> Option<TraceLine>
+    ensures { result ≡ option_map Step (option_and_then model.run_of (numerals (fields_of fields.now))) }
 {
     let numbers = numbers_in::<2>(fields)?;
     let (at, number) = one_job(&numbers)?;
-    Some(Event::Run { at, number })
+    Some(TraceLine::Step(Event::Run { at, number }))
 }
 
 /// The completion that fields spell behind its word.
 #[inline(always)]
 #[tactic(auto, using(crate::proofs::traces::NoLine::no_complete))]
-pub fn complete_of(fields: &[u8]) -> Option<Event>
-    ensures { result ≡ option_and_then model.complete_of (numerals (fields_of fields.now)) }
+pub fn complete_of(fields: &[u8]) -> Option<TraceLine>
+    ensures { result ≡ option_map Step (option_and_then model.complete_of (numerals (fields_of fields.now))) }
 {
     let numbers = numbers_in::<2>(fields)?;
     let (at, number) = one_job(&numbers)?;
-    Some(Event::Complete { at, number })
+    Some(TraceLine::Step(Event::Complete { at, number }))
 }
 
 /// The abandonment that fields spell behind its word.
 #[inline(always)]
 #[tactic(auto, using(crate::proofs::traces::NoLine::no_abandon))]
-pub fn abandon_of(fields: &[u8]) -> Option<Event>
-    ensures { result ≡ option_and_then model.abandon_of (numerals (fields_of fields.now)) }
+pub fn abandon_of(fields: &[u8]) -> Option<TraceLine>
+    ensures { result ≡ option_map Step (option_and_then model.abandon_of (numerals (fields_of fields.now))) }
 {
     let numbers = numbers_in::<2>(fields)?;
     let (at, number) = one_job(&numbers)?;
-    Some(Event::Abandon { at, number })
+    Some(TraceLine::Step(Event::Abandon { at, number }))
 }
 
 /// The preemption that fields spell behind its word.
 #[inline(always)]
 #[tactic(auto, using(crate::proofs::traces::NoLine::no_preempt))]
-pub fn preempt_of(fields: &[u8]) -> Option<Event>
-    ensures { result ≡ option_and_then model.preempt_of (numerals (fields_of fields.now)) }
+pub fn preempt_of(fields: &[u8]) -> Option<TraceLine>
+    ensures { result ≡ option_map Step (option_and_then model.preempt_of (numerals (fields_of fields.now))) }
 {
     let numbers = numbers_in::<3>(fields)?;
     let (at, stops, starts) = two_jobs(&numbers)?;
-    Some(Event::Preempt { at, stops, starts })
+    Some(TraceLine::Step(Event::Preempt { at, stops, starts }))
 }
 
 /// The take that fields spell behind its word.
 #[inline(always)]
 #[tactic(auto, using(crate::proofs::traces::NoLine::no_take))]
-pub fn take_of(fields: &[u8]) -> Option<Event>
-    ensures { result ≡ option_and_then model.take_of (numerals (fields_of fields.now)) }
+pub fn take_of(fields: &[u8]) -> Option<TraceLine>
+    ensures { result ≡ option_map Step (option_and_then model.take_of (numerals (fields_of fields.now))) }
 {
     let numbers = numbers_in::<3>(fields)?;
     let (at, stops, starts) = two_jobs(&numbers)?;
-    Some(Event::Take { at, stops, starts })
+    Some(TraceLine::Step(Event::Take { at, stops, starts }))
 }

@@ -20,7 +20,7 @@ fn admit(admission: &mut Admission, job: &Job) -> bool
         refusal_of admission.old.rules jobs job.now ≡ None → ⊥ }
     ensures rules { admission.new.rules ≡ admission.old.rules }
 {
-    match admission.check(job.release(), job.work(), job.deadline(), job.value()) {
+    match admission.check_job(*job) {
         Ok(job) => {
             admission.admit(job);
             true
