@@ -18,7 +18,7 @@ pub struct BackLine {
 
 /// Writes numbers, each behind a space, so that they end at `end`, and answers where they begin.
 #[inline(always)]
-pub fn put_before(bytes: &mut [u8], end: usize, numbers: &[u64]) -> usize
+pub(crate) fn put_before(bytes: &mut [u8], end: usize, numbers: &[u64]) -> usize
     requires room { length (numbers_behind numbers.now) ≤ end }
     requires end { end ≤ length bytes.old }
     ensures written { drop result bytes.new ≡ numbers_behind numbers.now ++ drop end bytes.old }

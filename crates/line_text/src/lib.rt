@@ -9,7 +9,7 @@ mod numerals;
 mod spelled;
 pub mod traces;
 
-pub use back_line::{BackLine, put_before};
+pub use back_line::BackLine;
 pub use cutting::{ByteEffect, Lines};
 pub use fields::{Numbers, behind_word, cut_field, numbers_in, read_numbers};
 pub use numerals::{first_number, numeral};

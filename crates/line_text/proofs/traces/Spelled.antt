@@ -73,7 +73,7 @@ two_ok at a b low other =
     ∙ ap (λ o. o >>= λ starts. let f : ℕ × ℕ × ℕ = (at, a, starts) in Some f) (number_ok b other)
 
 -- the word and numbers of a step are read as the step
-step_read : (e : Event) → NamesJobs e → step_of_word (word_of e) (step_numbers e) ≡ Some e
+pub step_read : (e : Event) → NamesJobs e → step_of_word (word_of e) (step_numbers e) ≡ Some e
 step_read (Release n j) named =
     ap (λ o. o >>= λ number. new_job j.release j.work j.deadline j.value >>= λ job. Some (Release number job))
     (number_ok n named.0)
@@ -460,14 +460,19 @@ fields_in (Step e) = word_of e ∷ map decimal (step_numbers e)
 fields_in (Refused t r c d v cause) = codes "refuse" ∷ map decimal (t ∷ r ∷ c ∷ d ∷ v ∷ []) ++ refusal_word cause ∷ []
 fields_in (RefusedDone t u n) = codes "refuse" ∷ map decimal (t ∷ u ∷ n ∷ []) ++ codes "done" ∷ []
 
+-- the text of a step is cut into its word and its numbers
+pub step_cut : (e : Event) → AreShort (step_numbers e)
+    → fields_of (text_of e) ≡ word_of e ∷ map decimal (step_numbers e)
+step_cut e short = ap fields_of (text_is e)
+    ∙ fields_of-line_of (word_of e) (map decimal (step_numbers e)) (word_whole e)
+    (decimals-HasNoSpace (step_numbers e) short)
+
 -- the text is cut into them
 text_cut : (x : TraceLine) → HasForm x → fields_of (trace_text x) ≡ fields_in x
 text_cut (Header version p q factor) form =
     fields_of-line_of (codes "dover") (map decimal (version ∷ p ∷ q ∷ pair_of factor)) refl
     (decimals-HasNoSpace (version ∷ p ∷ q ∷ pair_of factor) form)
-text_cut (Step e) form = ap fields_of (text_is e)
-    ∙ fields_of-line_of (word_of e) (map decimal (step_numbers e)) (word_whole e)
-    (decimals-HasNoSpace (step_numbers e) form.0)
+text_cut (Step e) form = step_cut e form.0
 text_cut (Refused t r c d v cause) form =
     fields_of-line_of (codes "refuse") (map decimal (t ∷ r ∷ c ∷ d ∷ v ∷ []) ++ refusal_word cause ∷ []) refl
     (then_word (refusal_word cause) (t ∷ r ∷ c ∷ d ∷ v ∷ []) (word_HasNoSpace cause) form)

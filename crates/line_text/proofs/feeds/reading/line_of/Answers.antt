@@ -1,15 +1,8 @@
-use Rattle.std.proofs.Common.{◌≡◌, true, false, sym, ap, ◌∙◌, codes, bytes_eq}
+use Rattle.std.proofs.Common.{◌≡◌, false, sym, ap, ◌∙◌, codes, bytes_eq}
 use Rattle.std.proofs.lemmas.Slice.Eq.{bytes_eq-Decides}
-use Rattle.dover_model.specs.Common.{line_of_fields, fields_of}
 use Rattle.dover_model.proofs.lists.Tests.{never}
 use Rattle.line_text.proofs.feeds.WhatIsRead.{no_line}
 use Rattle.line_text.proofs.feeds.reading.line_of.Goals as goal
-
-pub returns-then-eq : goal.returns-then-eq
-returns-then-eq c =
-    let same : bytes_eq c.args.line.now (codes "end") ≡ true =
-    sym (ap (bytes_eq c.args.line.now) c.as_slice.ensures) ∙ sym c.eq.ensures ∙ c.if-eq.true in
-    ap (λ l. line_of_fields (fields_of l)) (sym ((bytes_eq-Decides c.args.line.now (codes "end")).0 same))
 
 pub returns : goal.returns
 returns c = no_line c.args.line.now record {

@@ -51,8 +51,8 @@ returns-in-Some g c = record {
               ∙ sym (append_assoc at.given (out_text c.in-Some.out ∷ []) given.0);
           room = λ line more is. subst (λ m. admitted_in (account (a.feed ++ x)) ≤ m) (sym c.read_into.ensures.room)
               (at.room _ _ given.1);
-          lists = λ goes. one_listed c.args.self.now.roster c.read_into.new.roster at.given (at.lists goes)
-              c.in-Some.out given.3
+          lists = λ goes. one_listed c.args.self.now.roster (a.feed ++ x) goes at.given at.giving.left at.due
+              (at.lists goes) c.read_into.new.roster c.in-Some.out given.0 given.1 given.3
               (c.read_into.ensures.roll
               ((rw c.lane.ensures at c.goes_on-goes_on.ensures) (lines_of (a.feed ++ x)) given.0 given.2.lane ∙ goes));
         },
