@@ -14,7 +14,6 @@ use Rattle.ready_server.proofs.Successors.{successor_next}
 use Rattle.ready_server.specs.declared.server.ReadyServer.{ReadyServer}
 use Rattle.dover_engine.specs.Life.{life_with, Life, IsReadyFor, clock_of, spare_of, successor_of}
 use Rattle.ready_jobs.specs.Course as course
-use Rattle.ready_jobs.specs.Course.{state_of_course}
 use Rattle.dover_model.proofs.lists.Members.{some_same}
 use Rattle.dover_model.proofs.lists.Tests.{none_is_some}
 use Rattle.dover_engine.specs.Given.{Gave, IsSince}

@@ -11,7 +11,7 @@ use Rattle.lane_server.specs.Lanes.{OfLane, lane_line, Handed, Input, InputStand
 use Rattle.lane_server.specs.Lanes.{HasLine, goes_on_at, goes_on, input, input_of_lines, newly_due, due_after}
 use Rattle.lane_server.specs.Lanes.{lane_count, shorts_from, closing_lines, fault_word}
 use Rattle.lane_server.specs.Kept as keeping
-use Rattle.lane_server.specs.Kept.{Kept, StandsFor, AllStand, Answers, IsReady, is_closed, GivesNext}
+use Rattle.lane_server.specs.Kept.{Kept, StandsFor, AllStand, IsReady, is_closed, GivesNext}
 use Rattle.lane_server.specs.LaneInput.{word_of, standing_of, LeavesAt, Holds, Stands, Rests, Hands, Adds, GivesDue}
 use Rattle.lane_server.specs.LaneInput.{Ends}
 use Rattle.lane_server.specs.declared.lanes.Phase.{Phase}

@@ -5,5 +5,7 @@ pub mod Onlines
 pub mod Counting
 pub mod Leading
 pub mod Queueing
-pub mod Running
+pub mod Choosing
+pub mod OneRuns
+pub mod NoneRuns
 mod PolicyRows

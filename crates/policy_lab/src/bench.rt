@@ -1,6 +1,6 @@
 //! A policy's run under way, from one release or completion to the next.
 ghost use Rattle.std.specs.Prelude.{◌≡◌, ◌≤◌, ◌<◌, ◌+◌, ◌^◌, ◌∷◌, [], length, slice_get, Some, IsPermutation};
-ghost use Rattle.std.specs.Prelude.{IfOk, OnOk, IfSome, IfNone, IsTrue};
+ghost use Rattle.std.specs.Prelude.{IfOk, OnOk, IfSome, IfNone};
 ghost use Rattle.std.specs.Bool.{OnTrue, OnFalse};
 ghost use Rattle.std.specs.BinaryHeap.{heap_items, IsHeap, KeepsHeap};
 ghost use Rattle.dover_model.specs.declared.events.Version.TheVariants.{Two};

@@ -12,6 +12,8 @@ mod ChangedRows
 pub mod Following
 pub mod Silences
 pub mod Courses
+pub mod SilentCourses
+pub mod ChangedCourses
 pub mod NextTicks
 pub mod Spending
 pub mod Keeping

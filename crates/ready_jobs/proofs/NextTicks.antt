@@ -13,7 +13,8 @@ use Rattle.ready_jobs.specs.Course.{Course, Follows, IsCourse, Reached, ComesNex
 use Rattle.ready_jobs.specs.Dues.{still_ticks}
 use Rattle.ready_jobs.specs.NextTick.{IsUnderWay, PrintsAt}
 use Rattle.ready_jobs.specs.Parts.{Parted, HaveRoles, ready_of, state_of}
-use Rattle.ready_jobs.proofs.Courses.{course_part, course_reaches, reached_comes}
+use Rattle.ready_jobs.proofs.Courses.{course_part}
+use Rattle.ready_jobs.proofs.SilentCourses.{course_reaches, reached_comes}
 use Rattle.ready_jobs.proofs.Following.{parts_later}
 use Rattle.ready_jobs.proofs.Seeing.{seen_fresh, seen_running}
 use Rattle.ready_jobs.proofs.Silences.{Jump, jump, jump_settles, jump_stops}

@@ -31,7 +31,8 @@ use Rattle.ready_jobs.specs.Course.{Course, state_of_course, Follows, IsCourse, 
 use Rattle.ready_jobs.specs.Course.{with_release}
 use Rattle.ready_jobs.specs.Spending.{HasPaid, HasPaidFreely}
 use Rattle.ready_jobs.proofs.Costing.{sum_ready, over_not_waiting, fewer_wait, cost_whole, few_orders}
-use Rattle.ready_jobs.proofs.Courses.{follows_count, follows_fewer, follows_part, follows_step, course_takes}
+use Rattle.ready_jobs.proofs.Courses.{follows_count, follows_fewer, follows_part, follows_step}
+use Rattle.ready_jobs.proofs.ChangedCourses.{course_takes}
 use Rattle.ready_jobs.proofs.Seeing.{waiting_list}
 use Rattle.dover_model.proofs.steps.ReadyParts.{change}
 

@@ -1,16 +1,16 @@
 //! The ready jobs by their roles, what is seen of them, and how they change.
 ghost use Rattle.std.specs.Prelude.{◌≡◌, ℕ, ◌+◌, ◌-◌, ◌*◌, ◌^◌, ◌<◌, ◌≤◌, [], ◌∷◌, ◌++◌, length, map, max, Some, None};
-ghost use Rattle.std.specs.Prelude.{reverse, vec_capacity, option_map, IfOk, IsOk, OnOk, OnErr, IsTrue, ◌↔◌, ◌&&◌};
+ghost use Rattle.std.specs.Prelude.{option_map, IfOk, IsOk, OnOk, OnErr, IsTrue, ◌↔◌, ◌&&◌};
 ghost use Rattle.std.specs.Prelude.{true, false};
 ghost use Rattle.std.specs.List.{filter, find, list_any};
-ghost use Rattle.std.specs.Option.{option_to_list, ForSome};
+ghost use Rattle.std.specs.Option.{option_to_list};
 ghost use Rattle.dover_model.specs.declared.events.Role.TheVariants.{Fresh, Waiting, Held, Running};
 ghost use Rattle.dover_model.specs.declared.events.Task.{Task};
-ghost use Rattle.dover_model.specs.Common.{most_ready, last_tick, entry_of, IsRatio, is_fresh, is_coming, is_waiting};
+ghost use Rattle.dover_model.specs.Common.{most_ready, entry_of, is_fresh};
 ghost use Rattle.dover_model.specs.Common.{running, held, waiting, privileged, room, left, latest_start, value_sum};
 ghost use Rattle.dover_model.specs.Common.{due_first, starts_before, first, open_step, view, with_role};
 ghost use Rattle.dover_model.specs.Common.{is_less_dense, by_density, preempts, is_open_job};
-ghost use Rattle.dover_model.specs.Common.{is_at_latest_start, resumed, runs, displaced, ticked_by, Each};
+ghost use Rattle.dover_model.specs.Common.{is_at_latest_start, resumed, runs, ticked_by, Each};
 ghost use Rattle.ready_jobs.specs.Cases.{decision_of, alarm_of, next_ready};
 ghost use Rattle.ready_jobs.specs.Dues.{still_ticks, until_done};
 ghost use Rattle.ready_jobs.specs.Changed.{made_wait, completed};

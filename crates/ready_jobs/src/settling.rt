@@ -3,7 +3,7 @@ ghost use Rattle.std.specs.Prelude.{[], ◌≡◌, ◌≤◌, ◌<◌, ◌+◌, 
 ghost use Rattle.dover_model.specs.Common.{last_tick, open_step, view, Ticks, IsSilent};
 ghost use Rattle.waiting_pool.specs.Pools.{orders_of};
 ghost use Rattle.ready_jobs.specs.Deeds.{step_at, Finds};
-ghost use Rattle.ready_jobs.specs.Parts.{Parted, ready_of, state_of};
+ghost use Rattle.ready_jobs.specs.Parts.{ready_of, state_of};
 ghost use Rattle.ready_jobs.specs.Following.{IsPart, SettlesFrom};
 
 use crate::actions::Action;

@@ -4,7 +4,7 @@ use Rattle.std.proofs.Common.{Option, Some, None, nat_le, nat_lt, length, lt-ltb
 use Rattle.dover_model.specs.declared.events.Event.TheVariants.{Complete}
 use Rattle.dover_model.specs.declared.events.Role.TheVariants.{Running}
 use Rattle.dover_model.specs.declared.events.Task.{Task}
-use Rattle.dover_model.specs.Common.{Instance, with_finishes, State, opening, running, is_running, is_over, state_at}
+use Rattle.dover_model.specs.Common.{Instance, with_finishes, State, opening, running, is_running, is_over}
 use Rattle.dover_model.specs.Common.{Prints, after, settled, settled_steps, settled_state, finish_now, RunsAtMark}
 use Rattle.dover_model.specs.Common.{most_ready, EarlyFinish, finish_at, is_full, IsMember, HasPrinted, runner_of}
 use Rattle.dover_model.specs.declared.horizon.Horizon.TheVariants.{Mark}

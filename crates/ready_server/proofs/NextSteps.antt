@@ -6,7 +6,7 @@ use Rattle.dover_model.specs.declared.events.Role.TheVariants.{Coming, Fresh, Ru
 use Rattle.dover_model.specs.declared.events.Task.{Task}
 use Rattle.dover_model.specs.Common.{Fraction, Instance, IsValid, PrintsNext, is_ready, printed, printed_of}
 use Rattle.dover_model.specs.Common.{last_deadline, settled, settled_steps, waits_for_mark, Each, IsMember, NoneRuns}
-use Rattle.dover_model.specs.Common.{State, opening, state_at, is_over, is_coming, is_ready_behind, Move, Prints, Ticks}
+use Rattle.dover_model.specs.Common.{State, opening, is_over, is_coming, is_ready_behind, Move, Prints, Ticks}
 use Rattle.dover_model.specs.Common.{open_step, with_role, HasPrinted}
 use Rattle.dover_model.specs.declared.horizon.Horizon.TheVariants.{Mark}
 use Rattle.dover_model.proofs.settled.Barriers.{late_none_fresh}

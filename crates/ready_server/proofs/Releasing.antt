@@ -7,7 +7,7 @@ use Rattle.dover_model.specs.declared.events.Role.{Role}
 use Rattle.dover_model.specs.declared.events.Role.TheVariants.{Coming, Fresh, Running, Done}
 use Rattle.dover_model.specs.declared.events.Task.{Task}
 use Rattle.dover_model.specs.Common.{JobFacts, IsJob, last_tick, Instance, IsValid, with_jobs, State, opening}
-use Rattle.dover_model.specs.Common.{with_later, is_coming, state_at, Prints, open_step, waits_for_mark, settled}
+use Rattle.dover_model.specs.Common.{with_later, is_coming, Prints, open_step, waits_for_mark, settled}
 use Rattle.dover_model.specs.Common.{IsBefore, HasPrinted, IsMember, Each, FitsRole, IsSound, Keeps, with_fresh}
 use Rattle.dover_model.proofs.steps.Kept.{opening_keeps}
 use Rattle.dover_model.proofs.settled.Paths.{path_keeps, printed_behind}

@@ -7,7 +7,7 @@ use Rattle.std.proofs.lemmas.List.Sums.{fold-append}
 use Rattle.dover_model.specs.declared.events.Event.{Event}
 use Rattle.dover_model.specs.declared.events.Event.TheVariants as events
 use Rattle.dover_model.specs.declared.Memory.{Memory}
-use Rattle.dover_model.specs.Common.{last_tick, most_ready, Rules, Instance, IsValid, State, opening, state_at, Prints}
+use Rattle.dover_model.specs.Common.{last_tick, most_ready, Rules, Instance, IsValid, State, opening, Prints}
 use Rattle.dover_model.specs.Common.{step, open_step, after, Step, is_end, event_of, printed, printed_of, last_deadline}
 use Rattle.dover_model.specs.Common.{settled, AreOverFor, tick_of_event, last_of, open_at, IsBefore, IsWholeRun, Begins}
 use Rattle.dover_model.specs.Common.{IsOpenPath, HasPrinted, Keeps, Settles, Idles, GoesOn, WaitsUntil, PrintsNext}

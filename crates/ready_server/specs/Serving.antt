@@ -1,7 +1,7 @@
 -- How far a server has come.
 use Rattle.std.specs.Prelude.{◌≡◌, ◌≤◌, ◌<◌, ◌+◌, ◌-◌, ◌^◌, ℕ, min, List, [], ◌∷◌, ◌++◌, length, Bool, true, false}
 use Rattle.std.specs.Prelude.{Option, Some, None, MatchBool}
-use Rattle.dover_model.specs.Common.{EarlyFinish, finish_at, Instance, with_finishes, most_ready, State, state_at, Step}
+use Rattle.dover_model.specs.Common.{EarlyFinish, finish_at, Instance, with_finishes, most_ready, State, Step}
 use Rattle.dover_model.specs.Common.{printed, printed_of, settled, last_of, GoesOn, IsWholeRun, IsBarrier, Begins}
 use Rattle.dover_model.specs.Common.{HasPrinted, due_by}
 use Rattle.dover_model.specs.declared.events.Event.{Event}

@@ -1,6 +1,5 @@
 //! A list of jobs, served to the end.
-ghost use Rattle.std.specs.Prelude.{◌≡◌, ℕ, List, [], ◌∷◌, length, OnOk};
-ghost use Rattle.dover_model.specs.declared.events.Event.{Event};
+ghost use Rattle.std.specs.Prelude.{ℕ, [], ◌∷◌, length, OnOk};
 ghost use Rattle.dover_model.specs.Common.{Instance, IsValid, with_jobs, jobs_under, printed, MayFollow, due_by};
 ghost use Rattle.dover_model.specs.Common.{CostsAtMost};
 ghost use Rattle.dover_model.specs.declared.horizon.Horizon.{Horizon};

@@ -1,5 +1,5 @@
 //! The judge of a text.
-ghost use Rattle.std.specs.Prelude.{◌≡◌, ◌≤◌, ◌<◌, ◌+◌, ◌∷◌, [], ℕ, List, false, true, Bool, IfOk, OnOk, OnErr, IsOk};
+ghost use Rattle.std.specs.Prelude.{◌≡◌, ◌≤◌, ◌<◌, ◌+◌, ◌∷◌, [], ℕ, List, true, IfOk, OnOk, OnErr, IsOk};
 ghost use Rattle.std.specs.Prelude.{◌≢◌, ◌↔◌, IsTrue, length, take, IsErr};
 ghost use Rattle.dover_model.specs.Verdict as model;
 ghost use Rattle.line_text.specs.declared.cutting.ByteEffect.TheVariants.{More, Line, TooLong};

@@ -1,5 +1,5 @@
 //! What the judge keeps of the lines of a trace: the course of its session, and what may come next in it.
-ghost use Rattle.std.specs.Prelude.{◌≡◌, ◌≤◌, ◌<◌, ◌+◌, ◌∷◌, ◌++◌, ℕ, List, [], Bool, true, false, IsTrue, IfOk};
+ghost use Rattle.std.specs.Prelude.{◌≡◌, ◌≤◌, ◌<◌, ◌+◌, ◌∷◌, ◌++◌, ℕ, List, [], true, false, IfOk};
 ghost use Rattle.std.specs.Prelude.{OnOk, OnErr, IsOk, Some, None, vec_len, vec_capacity, length, if◌then◌else◌};
 ghost use Rattle.dover_model.specs.Common.{last_tick, last_tick_in, most_items, may_finish_early, refuses_lines};
 ghost use Rattle.std.specs.Prelude.{◌&&◌, nat_le, is_some};

@@ -4,7 +4,7 @@ use Rattle.std.proofs.Common.{arith, eqb}
 use Rattle.std.specs.Prelude.{◌==◌, ◌&&◌, ◌||◌, nat_lt, nat_le}
 use Rattle.std.specs.Bool.{then_some}
 use Rattle.std.specs.List.{filter, list_all}
-use Rattle.std.proofs.lemmas.Bool.{eqb-true, eqb-false, eq-eqb, and_parts, lt-ltb, ltb-true, leb-true, leb-false}
+use Rattle.std.proofs.lemmas.Bool.{eqb-true, eqb-false, leb-true, leb-false}
 use Rattle.dover_model.specs.Common.{JobFacts, Fraction, Rules, Instance, IsValid, Finish, is_due, need, goes_on, Role}
 use Rattle.dover_model.specs.Common.{Coming, Fresh, Waiting, Held, Running, Done, Gone, End, Task, State, opening}
 use Rattle.dover_model.specs.Common.{is_ready_behind, is_over, is_done, left, value_sum, Move, Prints, Ticks, ◌or_else◌}

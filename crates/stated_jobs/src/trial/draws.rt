@@ -1,6 +1,6 @@
 //! Draws, and the job of four of them.
 ghost use Rattle.std.specs.Prelude.{◌≡◌, ◌<◌, ◌≤◌, ◌^◌, ◌+◌, ◌/◌, ◌%◌, ◌*◌};
-ghost use Rattle.dover_model.specs.Generator.{next_state, high_bits, most_density, job_of_draws};
+ghost use Rattle.dover_model.specs.Generator.{next_state, high_bits, job_of_draws};
 
 use dover_model::{Job, Ratio};
 

@@ -72,7 +72,7 @@ fn last_named_in(turn: &Turn) -> u64
 }
 
 impl TurnGen {
-    ghost use Rattle.std.specs.Prelude.{◌↔◌, ◌<◌, ◌^◌, ◌++◌, [], IsNone, length, option_to_list};
+    ghost use Rattle.std.specs.Prelude.{◌↔◌, ◌<◌, ◌^◌, ◌++◌, [], IsNone, option_to_list};
     ghost use Rattle.dover_model.specs.declared.events.Version.TheVariants.{Two};
     ghost use Rattle.dover_model.specs.Limits.{most_jobs};
     ghost use Rattle.stated_jobs.specs.trial.Turns.{drawn_turns};

@@ -2,7 +2,7 @@ use Rattle.std.proofs.Common.{◌≡◌, ◌+◌, ◌*◌, ◌^◌, ◌∷◌, �
 use Rattle.std.proofs.lemmas.List.Sorted.{IsPermutation-map}
 use Rattle.policy_lab.specs.Ranks.{turn_by}
 use Rattle.policy_lab.specs.Bench.{Turn, entry_with, kept_of}
-use Rattle.policy_lab.proofs.Running.{put_rank, put_within}
+use Rattle.policy_lab.proofs.Choosing.{put_rank, put_within}
 use Rattle.policy_lab.proofs.bench.put.Goals as goal
 
 pub overflow_mul-turn : goal.overflow_mul-turn

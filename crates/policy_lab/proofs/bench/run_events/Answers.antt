@@ -1,5 +1,5 @@
 use Rattle.dover_model.proofs.valid.ValidParts.{order_parts}
-use Rattle.policy_lab.proofs.Running.{begins_as}
+use Rattle.policy_lab.proofs.Choosing.{begins_as}
 use Rattle.policy_lab.proofs.bench.run_events.Goals as goal
 
 pub loop-bench-init : goal.loop-bench-init

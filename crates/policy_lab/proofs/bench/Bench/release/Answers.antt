@@ -3,7 +3,7 @@ use Rattle.dover_model.proofs.valid.ValidParts.{order_parts}
 use Rattle.clairvoyant.proofs.feasible.Running.{next_found}
 use Rattle.policy_lab.specs.Ranks.{turn_by}
 use Rattle.policy_lab.specs.Bench.{entry_with, kept_of}
-use Rattle.policy_lab.proofs.Running.{run_released, run_on_from}
+use Rattle.policy_lab.proofs.Choosing.{run_released, run_on_from}
 use Rattle.policy_lab.proofs.bench.Bench.release.Goals as goal
 
 pub loop-job-preserved : goal.loop-job-preserved

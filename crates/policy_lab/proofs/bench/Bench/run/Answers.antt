@@ -7,7 +7,8 @@ use Rattle.clairvoyant.proofs.feasible.Running.{next_found}
 use Rattle.policy_lab.specs.Ranks.{turn_by}
 use Rattle.policy_lab.specs.Bench.{schedule_before, entry_with, kept_of}
 use Rattle.policy_lab.specs.Stops.{stop_by}
-use Rattle.policy_lab.proofs.Running.{next_ahead, next_bound, next_job, run_most, run_stops, run_done, run_back}
+use Rattle.policy_lab.proofs.Choosing.{next_ahead, next_bound, next_job}
+use Rattle.policy_lab.proofs.OneRuns.{run_most, run_stops, run_done, run_back}
 use Rattle.policy_lab.proofs.Runs.{schedule_length}
 use Rattle.policy_lab.proofs.bench.Bench.run.Goals as goal
 

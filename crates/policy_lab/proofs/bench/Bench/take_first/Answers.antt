@@ -1,7 +1,7 @@
 use Rattle.std.proofs.Common.{refl, arith, heap_items}
 use Rattle.dover_model.proofs.valid.ValidParts.{order_parts}
 use Rattle.clairvoyant.proofs.feasible.Running.{next_found}
-use Rattle.policy_lab.proofs.Running.{run_popped, run_fits, run_late, taken_low, taken_left}
+use Rattle.policy_lab.proofs.Choosing.{run_popped, run_fits, run_late, taken_low, taken_left}
 use Rattle.policy_lab.proofs.bench.Bench.take_first.Goals as goal
 
 pub bounds-jobs-number : goal.bounds-jobs-number

@@ -3,7 +3,8 @@ use Rattle.dover_model.specs.Common.{idle}
 use Rattle.dover_model.proofs.valid.ValidParts.{order_parts}
 use Rattle.clairvoyant.proofs.feasible.Running.{next_found}
 use Rattle.policy_lab.specs.Bench.{HasRun}
-use Rattle.policy_lab.proofs.Running.{run_waits, run_over, next_ahead}
+use Rattle.policy_lab.proofs.Choosing.{next_ahead}
+use Rattle.policy_lab.proofs.NoneRuns.{run_waits, run_over}
 use Rattle.policy_lab.proofs.bench.Bench.wait.Goals as goal
 
 pub returns-in-Some-clause-run : goal.returns-in-Some-clause-run

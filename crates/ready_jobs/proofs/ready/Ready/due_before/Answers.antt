@@ -3,7 +3,8 @@ use Rattle.dover_model.specs.Run.{event_of}
 use Rattle.ready_jobs.specs.declared.actions.DueStep.{DueStep}
 use Rattle.ready_jobs.specs.Course.{Course, IsDue, Settled}
 use Rattle.ready_jobs.specs.Deeds.{step_at}
-use Rattle.ready_jobs.proofs.Courses.{over_settled, tested_late, tested_early, silent_settled, some_jobs, due_now}
+use Rattle.ready_jobs.proofs.Courses.{some_jobs, due_now}
+use Rattle.ready_jobs.proofs.SilentCourses.{over_settled, tested_late, tested_early, silent_settled}
 use Rattle.ready_jobs.proofs.Costing.{no_cost}
 use Rattle.ready_jobs.proofs.Doing.{prints_event}
 use Rattle.ready_jobs.proofs.ready.Ready.due_before.Goals as goal

@@ -2,7 +2,8 @@ use Rattle.std.proofs.Common.{sym, ap, ◌∙◌, subst}
 use Rattle.dover_model.specs.Common.{event_of, Prints}
 use Rattle.ready_jobs.specs.Course.{Course, Follows, Reached}
 use Rattle.ready_jobs.specs.Deeds.{step_at}
-use Rattle.ready_jobs.proofs.Courses.{reached_next, reached_last, due_now}
+use Rattle.ready_jobs.proofs.Courses.{due_now}
+use Rattle.ready_jobs.proofs.SilentCourses.{reached_next, reached_last}
 use Rattle.ready_jobs.proofs.Doing.{prints_event}
 use Rattle.ready_jobs.proofs.ready.Ready.due_next.Goals as goal
 

@@ -5,7 +5,8 @@ use Rattle.ready_jobs.specs.Course.{Finishes, RunsNowhere, course_of}
 use Rattle.ready_jobs.specs.Spending.{HasPaid, HasPaidFreely}
 use Rattle.dover_model.proofs.lists.Members.{some_same}
 use Rattle.dover_model.proofs.lists.Tests.{none_is_some}
-use Rattle.ready_jobs.proofs.Courses.{course_finishes, finished_course, runs_nowhere, follows_modest}
+use Rattle.ready_jobs.proofs.Courses.{follows_modest}
+use Rattle.ready_jobs.proofs.ChangedCourses.{course_finishes, finished_course, runs_nowhere}
 use Rattle.ready_jobs.proofs.Spending.{finish_pays}
 use Rattle.ready_jobs.proofs.ready.Ready.finish.Goals as goal
 

@@ -4,7 +4,9 @@ use Rattle.dover_model.specs.declared.events.Event.TheVariants.{End}
 use Rattle.dover_model.specs.Common.{event_of, Prints}
 use Rattle.ready_jobs.specs.Course.{Course, Follows, ComesNext, Takes}
 use Rattle.ready_jobs.specs.Deeds.{step_at}
-use Rattle.ready_jobs.proofs.Courses.{over_next, over_takes, reached_comes, some_jobs, due_now, kept_on}
+use Rattle.ready_jobs.proofs.Courses.{some_jobs, due_now, kept_on}
+use Rattle.ready_jobs.proofs.SilentCourses.{over_next, reached_comes}
+use Rattle.ready_jobs.proofs.ChangedCourses.{over_takes}
 use Rattle.ready_jobs.proofs.Naming.{same_event}
 use Rattle.ready_jobs.proofs.ready.Ready.follow.Goals as goal
 

@@ -6,7 +6,8 @@ use Rattle.ready_jobs.specs.Parts.{Parted}
 use Rattle.ready_jobs.specs.Course.{Course, Follows}
 use Rattle.ready_jobs.specs.Spending.{HasPaid, HasPaidFreely}
 use Rattle.ready_jobs.proofs.Costing.{fewer_wait, silent_at_most}
-use Rattle.ready_jobs.proofs.Courses.{course_part, course_reaches, reaches_course}
+use Rattle.ready_jobs.proofs.Courses.{course_part}
+use Rattle.ready_jobs.proofs.SilentCourses.{course_reaches, reaches_course}
 use Rattle.ready_jobs.proofs.Seeing.{held_list}
 use Rattle.ready_jobs.proofs.Spending.{silent_pays, silent_frees}
 use Rattle.ready_jobs.proofs.ready.Ready.go_on.Goals as goal

@@ -4,7 +4,8 @@ use Rattle.waiting_pool.specs.Reordered.{IsReordered}
 use Rattle.ready_jobs.specs.Parts.{Parted, ready_of}
 use Rattle.ready_jobs.specs.Course.{Course, IsCourse, course_of, with_release, fresh_job}
 use Rattle.ready_jobs.specs.Spending.{HasPaid}
-use Rattle.ready_jobs.proofs.Courses.{come_stale, come_course, come_order, course_few}
+use Rattle.ready_jobs.proofs.Courses.{course_few}
+use Rattle.ready_jobs.proofs.ChangedCourses.{come_stale, come_course, come_order}
 use Rattle.ready_jobs.proofs.Spending.{release_pays}
 use Rattle.ready_jobs.proofs.ready.Ready.release.Goals as goal
 

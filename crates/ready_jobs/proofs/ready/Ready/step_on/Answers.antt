@@ -5,7 +5,8 @@ use Rattle.dover_model.specs.declared.events.Event.TheVariants.{End}
 use Rattle.ready_jobs.specs.Course.{Course, Takes}
 use Rattle.ready_jobs.specs.Spending.{wait_again}
 use Rattle.ready_jobs.proofs.Costing.{no_cost, both_at_most}
-use Rattle.ready_jobs.proofs.Courses.{over_takes, some_jobs, kept_on}
+use Rattle.ready_jobs.proofs.Courses.{some_jobs, kept_on}
+use Rattle.ready_jobs.proofs.ChangedCourses.{over_takes}
 use Rattle.ready_jobs.proofs.ready.Ready.step_on.Goals as goal
 
 pub returns-then-is_empty-clause-taken : goal.returns-then-is_empty-clause-taken

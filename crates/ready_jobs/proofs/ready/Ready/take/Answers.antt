@@ -5,7 +5,8 @@ use Rattle.ready_jobs.specs.Parts.{Parted}
 use Rattle.ready_jobs.specs.Course.{Course, Follows, IsDue}
 use Rattle.ready_jobs.specs.Deeds.{Does}
 use Rattle.ready_jobs.specs.Spending.{HasPaid, wait_again}
-use Rattle.ready_jobs.proofs.Courses.{course_part, course_takes, takes_course, due_does, follows_modest}
+use Rattle.ready_jobs.proofs.Courses.{course_part, follows_modest}
+use Rattle.ready_jobs.proofs.ChangedCourses.{course_takes, takes_course, due_does}
 use Rattle.ready_jobs.proofs.Seeing.{held_list}
 use Rattle.ready_jobs.proofs.Silences.{known_sound, known_once}
 use Rattle.ready_jobs.proofs.Spending.{printed_pays}

@@ -2,7 +2,8 @@ use Rattle.std.proofs.Common.{◌<◌, length, sym, ap, ◌∙◌, subst}
 use Rattle.dover_model.specs.declared.events.Event.TheVariants.{End}
 use Rattle.dover_model.specs.Leading.{PrintsNext}
 use Rattle.ready_jobs.specs.Course.{Course}
-use Rattle.ready_jobs.proofs.Courses.{over_next, some_jobs}
+use Rattle.ready_jobs.proofs.Courses.{some_jobs}
+use Rattle.ready_jobs.proofs.SilentCourses.{over_next}
 use Rattle.ready_jobs.proofs.ready.Ready.upcoming.Goals as goal
 
 pub returns-then-is_empty-clause-next : goal.returns-then-is_empty-clause-next

@@ -5,7 +5,7 @@ use Rattle.dover_model.specs.declared.horizon.Horizon.TheVariants.{Mark, End}
 use Rattle.dover_model.specs.Common.{Instance, printed}
 use Rattle.dover_model.proofs.lists.Tests.{never}
 use Rattle.ready_jobs.specs.Course.{Course}
-use Rattle.ready_jobs.proofs.Courses.{ends_next}
+use Rattle.ready_jobs.proofs.ChangedCourses.{ends_next}
 use Rattle.ready_server.specs.Serving.{Serves, Rests, LeavesRest}
 use Rattle.ready_server.specs.declared.server.ReadyServer.{ReadyServer}
 use Rattle.ready_server.proofs.Stepping.{end_given, event_given, next_short, place_behind}

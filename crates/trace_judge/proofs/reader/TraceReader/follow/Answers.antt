@@ -1,5 +1,5 @@
 use Rattle.std.proofs.Common.{◌∙◌, sym, ap, subst, arith, max, refl}
-use Rattle.ready_jobs.proofs.Courses.{ends_next}
+use Rattle.ready_jobs.proofs.ChangedCourses.{ends_next}
 use Rattle.trace_judge.specs.Reads.{IsPaid, Reading}
 use Rattle.trace_judge.proofs.Paying.{paid_on, paid_late}
 use Rattle.trace_judge.proofs.Readings.{next_reader, followed_on}
