@@ -1,4 +1,4 @@
-use Rattle.std.proofs.Common.{◌≡◌, ◌++◌, ◌∷◌, [], ap, sym, subst, ◌∙◌}
+use Rattle.std.proofs.Common.{◌++◌, ◌∷◌, [], ap, sym, subst, ◌∙◌}
 use Rattle.dover_model.proofs.lists.Tests.{none_is_some}
 use Rattle.admission.specs.Answers.{refusal_in}
 use Rattle.admission.specs.Kept.{StandsFor}
