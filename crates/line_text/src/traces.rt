@@ -5,5 +5,5 @@ mod steps;
 mod writing;
 
 pub use lines::TraceLine;
-pub use reading::read_trace_line;
+pub use reading::{SCHEDULE, TRACE, read_trace_line};
 pub use writing::{refusal_word, write_event};

@@ -6,7 +6,7 @@ use crate::book::Book;
 use crate::causes::Cause;
 use dover_model::{Event, Memory, PackedEvent, Version};
 use line_text::LINE_BYTES;
-use line_text::traces::{TraceLine, read_trace_line};
+use line_text::traces::{SCHEDULE, TraceLine, read_trace_line};
 use std::alloc::Global;
 use std::marker::Model;
 
@@ -49,7 +49,7 @@ fn step_in(line: &[u8]) -> Option<Event>
     if line.len() >= LINE_BYTES {
         return None;
     }
-    match read_trace_line(line) {
+    match read_trace_line::<SCHEDULE>(line) {
         Ok(read) => step_of(read),
         Err(_) => None,
     }

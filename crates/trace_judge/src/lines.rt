@@ -5,7 +5,7 @@ use crate::reader::TraceReader;
 use crate::stage::TraceStage;
 use comparison_count::Comparisons;
 use dover_model::{Event, Memory};
-use line_text::traces::{TraceLine, read_trace_line};
+use line_text::traces::{TRACE, TraceLine, read_trace_line};
 use std::sync::ledger::Ledger;
 
 impl TraceReader {
@@ -134,7 +134,7 @@ impl TraceReader {
         ensures paid { (start : ℕ) → IsPaid self.old start comparisons.old →
             IsPaid self.new start comparisons.new }
     {
-        match read_trace_line(line) {
+        match read_trace_line::<TRACE>(line) {
             Ok(read) => self.take_read(&read, comparisons),
             Err(_) => Ok(false),
         }

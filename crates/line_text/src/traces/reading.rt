@@ -15,6 +15,12 @@ use crate::traces::steps::{
 use crate::{BadLine, behind_word, cut_field, first_number, numbers_in};
 use dover_model::Refusal;
 
+/// The reader of a trace that a run is judged by.
+pub const TRACE: u8 = 0;
+
+/// The reader of a schedule of any policy.
+pub const SCHEDULE: u8 = 1;
+
 /// A header, of three numbers, or of five.
 fn header_with(numbers: &[u64]) -> Option<TraceLine>
     ensures { result ≡ model.header_of numbers.now }
@@ -146,9 +152,8 @@ fn refusal_of(fields: &[u8]) -> Option<TraceLine>
     }
 }
 
-/// The line of the fields, by their word. Each crate that reads traces takes it in.
-#[inline(always)]
-fn line_of(line: &[u8]) -> Option<TraceLine>
+/// The line of the fields, by their word. It is too long to be taken in by two, so each reader has one of its own.
+fn line_of<const READER: u8>(line: &[u8]) -> Option<TraceLine>
     ensures { result ≡ model.line_of_fields (fields_of line.now) }
 {
     if let Some(fields) = behind_word(line, b"job") {
@@ -181,14 +186,15 @@ fn line_of(line: &[u8]) -> Option<TraceLine>
     None
 }
 
-/// Reads a line without its line feed.
+/// Reads a line without its line feed. `READER` says for whom, `TRACE` or `SCHEDULE`. It changes nothing but that each of
+/// them has the code to itself, which is then taken in where its lines are taken.
 ///
 /// # Errors
 ///
 /// `BadLine` exactly where the bytes are none of the forms, or a `job` line's fields aren't a job, or a job's number is
 /// above 3,999,999,999.
 #[inline(always)]
-pub fn read_trace_line(line: &[u8]) -> Result<TraceLine, BadLine>
+pub fn read_trace_line<const READER: u8>(line: &[u8]) -> Result<TraceLine, BadLine>
     // What is read has a form, and the bytes are its text.
     ensures form { IfOk result (λ read. HasForm read) }
     ensures text { IfOk result (λ read. trace_text read ≡ line.now) }
@@ -198,7 +204,7 @@ pub fn read_trace_line(line: &[u8]) -> Result<TraceLine, BadLine>
     ensures item { IfOk result (λ read. verdict.item_of line.now ≡ item_in read) }
     ensures rules { IfOk result (λ read. verdict.rules_of line.now ≡ rules_in read) }
 {
-    match line_of(line) {
+    match line_of::<READER>(line) {
         Some(read) => Ok(read),
         None => Err(BadLine),
     }

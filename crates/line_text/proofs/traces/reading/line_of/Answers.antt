@@ -2,7 +2,7 @@ use Rattle.line_text.proofs.traces.NoLine.{no_line}
 use Rattle.line_text.proofs.traces.reading.line_of.Goals as goal
 
 pub returns : goal.returns
-returns c = no_line c.args.line.now record {
+returns g c = no_line c.args.line.now record {
   job = c.in_default.ensures.none;
   run = c.in_default-behind_word.ensures.none;
   complete = c.in_default-behind_word-2.ensures.none;
