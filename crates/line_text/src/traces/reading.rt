@@ -186,8 +186,8 @@ fn line_of<const READER: u8>(line: &[u8]) -> Option<TraceLine>
     None
 }
 
-/// Reads a line without its line feed. `READER` says for whom, `TRACE` or `SCHEDULE`. It changes nothing but that each of
-/// them has the code to itself, which is then taken in where its lines are taken.
+/// Reads a line without its line feed. `READER` says for whom, `TRACE` or `SCHEDULE`. It changes nothing but that each
+/// of them has the code to itself, which is then taken in where its lines are taken.
 ///
 /// # Errors
 ///
