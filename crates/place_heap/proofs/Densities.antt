@@ -1,5 +1,5 @@
 -- Densities as whole numbers, and the items by density, which come as the model orders waiting jobs in a pressed state.
-use Rattle.std.proofs.Common.{◌≡◌, ◌≢◌, ℕ, ◌+◌, ◌-◌, ◌*◌, ◌/◌, ◌^◌, ◌<◌, ◌≤◌, ◌⊎◌, inl, inr, Bool, true, false, not}
+use Rattle.std.proofs.Common.{◌≡◌, ℕ, ◌+◌, ◌-◌, ◌*◌, ◌/◌, ◌^◌, ◌<◌, ◌≤◌, ◌⊎◌, inl, inr, Bool, true, false, not}
 use Rattle.std.proofs.Common.{◌||◌, ◌&&◌, nat_lt, ap, ◌∙◌, sym, arith}
 use Rattle.std.proofs.lemmas.Bool.{cases_lt}
 use Rattle.std.proofs.lemmas.Nat.{mul-le}
@@ -10,7 +10,7 @@ use Rattle.dover_model.specs.declared.events.Version.TheVariants.{Four}
 use Rattle.dover_model.proofs.valid.JobLimits.{job_limits}
 use Rattle.place_heap.specs.Items.{less_or, is_before}
 use Rattle.place_heap.specs.Orders.{density_of, dense_item}
-use Rattle.place_heap.proofs.Tying.{ordered_as, due_itself}
+use Rattle.place_heap.proofs.Tying.{ordered_as}
 
 -- ---- numbers
 
@@ -103,14 +103,7 @@ module _ (d e t u : ℕ) (rest : Bool) (t_fits : t < 2 ^ 32) (u_fits : u < 2 ^ 3
 by_both : (x y due : Bool) → x ≡ false → y ≡ false → (x || (not y && due)) ≡ due
 by_both x y due is_x is_y = ap (λ z. z || (not y && due)) is_x ∙ ap (λ z. false || (not z && due)) is_y
 
--- no job comes before itself
-pub dense_itself : (t : Task) → waiting_order Four true t t ≡ false
-dense_itself t =
-    by_both (is_less_dense t t) (is_less_dense t t) (due_first Four t t)
-    (is_no_less (t.job.value * t.job.work) (t.job.value * t.job.work) (omega arith))
-    (is_no_less (t.job.value * t.job.work) (t.job.value * t.job.work) (omega arith)) ∙ due_itself Four t
-
-module _ (a b : Task) (p q : ℕ) (apart : a.number ≢ b.number) (a_job : IsJob a.job) (b_job : IsJob b.job) where
+module _ (a b : Task) (p q : ℕ) (a_job : IsJob a.job) (b_job : IsJob b.job) where
   abbrev d : ℕ
   d = density_of a.job
 
@@ -147,15 +140,11 @@ module _ (a b : Task) (p q : ℕ) (apart : a.number ≢ b.number) (a_job : IsJob
   e_most : e ≤ 2 ^ 112
   e_most = omega (arith, density_most b.job.value b.job.work (2 ^ 80) b_some, b_modest)
 
-  rest : Bool
-  rest = less_or (dense_item p a).tie (dense_item q b).tie (less_or a.number b.number (nat_lt p q))
-
   -- as dense, they come by deadline
-  rest_is : less_or (dense_item p a).tie (dense_item q b).tie (less_or a.number b.number (nat_lt p q))
-      ≡ due_first Four a b
+  rest_is : less_or (dense_item p a).tie (dense_item q b).tie (nat_lt a.number b.number) ≡ due_first Four a b
   rest_is = in_one a.job.deadline b.job.deadline (1_000_000_000 - a.job.value) (1_000_000_000 - b.job.value)
-      (less_or a.number b.number (nat_lt p q)) (omega arith) (omega arith)
-      ∙ (ordered_as Four (entry_of a) (entry_of b) p q apart a_modest b_modest).due
+      (nat_lt a.number b.number) (omega arith) (omega arith)
+      ∙ (ordered_as Four (entry_of a) (entry_of b) p q a_modest b_modest).due
 
   as_is : (la < lb) ⊎ (lb ≤ la) → (lb < la) ⊎ (la ≤ lb)
       → is_before (dense_item p a) (dense_item q b) ≡ waiting_order Four true a b

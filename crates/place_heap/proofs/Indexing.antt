@@ -5,10 +5,10 @@ use Rattle.std.proofs.Common.{get_or-set_other, ext_get_or, length-set}
 use Rattle.std.proofs.lemmas.Bool.{cases_eq, cases_lt}
 use Rattle.std.proofs.lemmas.Option.{slice_get-get_or, slice_get_past, none-some}
 use Rattle.std.proofs.lemmas.List.{get_or_past, get_or-map, length-map, get_or_default, get_or_append_left, get_or_push}
-use Rattle.std.proofs.lemmas.List.{length_push}
+use Rattle.std.proofs.lemmas.List.{length_push, set-get_or}
 use Rattle.place_heap.specs.Items.{ItemFacts}
 use Rattle.place_heap.proofs.Swaps.{AreSwapped}
-use Rattle.place_heap.specs.Table.{IsIndexed, position, nowhere, table_of, blank}
+use Rattle.place_heap.specs.Table.{HasHole, IsIndexed, position, nowhere, table_of, table_with, blank}
 
 -- no two items have one place
 pub own_places : (es : List ItemFacts) (ps : List ℕ) → IsIndexed es ps → (i j : ℕ) (d : ItemFacts) → i < length es
@@ -142,8 +142,7 @@ module _ (es ys : List ItemFacts) (ps qs : List ℕ) (i j : ℕ) (kept : IsIndex
 -- ---- an item is put into the hole at a position, and x into the hole that it leaves
 
 module _ (items : List ItemFacts) (positions : List ℕ) (x : ItemFacts) (at p : ℕ) (few : length items ≤ nowhere)
-    (ready : x.place < length positions) (at_in : at < length items) (p_in : p < length items) (apart : p ≢ at)
-    (kept : IsIndexed (set items at x) (set positions x.place at)) where
+    (hole : HasHole items positions x at) (p_in : p < length items) (apart : p ≢ at) where
   abbrev y : ItemFacts
   y = get_or items p blank
 
@@ -169,13 +168,13 @@ module _ (items : List ItemFacts) (positions : List ℕ) (x : ItemFacts) (at p :
   ys_len = length-set (set items at y) p x ∙ mid_len ∙ sym es_len
 
   at_es : (d : ItemFacts) → get_or es at d ≡ x
-  at_es d = get_or-set_same items at x d at_in
+  at_es d = get_or-set_same items at x d hole.inside
 
   p_es : (d : ItemFacts) → get_or es p d ≡ y
   p_es d = get_or-set_other items at p x d apart ∙ get_or_default items p d blank p_in
 
   at_ys : (d : ItemFacts) → get_or ys at d ≡ y
-  at_ys d = get_or-set_other (set items at y) p at x d (λ e. apart (sym e)) ∙ get_or-set_same items at y d at_in
+  at_ys d = get_or-set_other (set items at y) p at x d (λ e. apart (sym e)) ∙ get_or-set_same items at y d hole.inside
 
   p_ys : (d : ItemFacts) → get_or ys p d ≡ x
   p_ys d = get_or-set_same (set items at y) p x d (omega (arith, mid_len))
@@ -188,14 +187,14 @@ module _ (items : List ItemFacts) (positions : List ℕ) (x : ItemFacts) (at p :
   hole_swapped = (λ d. at_ys d ∙ sym (p_es d), λ d. p_ys d ∙ sym (at_es d), other_ys)
 
   y_position : position ps y.place ≡ p
-  y_position = ap (λ e. position ps e.place) (sym (p_es blank)) ∙ kept.kept p blank (omega (arith, es_len))
+  y_position = ap (λ e. position ps e.place) (sym (p_es blank)) ∙ hole.indexed.kept p blank (omega (arith, es_len))
 
   pub y_ready : y.place < length positions
   y_ready = let inside : y.place < length ps = place_in ps y.place p y_position (λ e. omega (arith, few, p_in, e)) in
       omega (arith, inside, length-set positions x.place at)
 
   x_position : position ps x.place ≡ at
-  x_position = get_or-set_same positions x.place at nowhere ready
+  x_position = get_or-set_same positions x.place at nowhere hole.ready
 
   places_apart : y.place ≢ x.place
   places_apart e = apart (sym y_position ∙ ap (position ps) e ∙ x_position)
@@ -203,7 +202,7 @@ module _ (items : List ItemFacts) (positions : List ℕ) (x : ItemFacts) (at p :
   at_x : position qs (get_or es at blank).place ≡ p
   at_x = ap (λ e. position qs e.place) (at_es blank)
       ∙ get_or-set_same (set positions y.place at) x.place p nowhere
-      (omega (arith, ready, length-set positions y.place at))
+      (omega (arith, hole.ready, length-set positions y.place at))
 
   at_y : position qs (get_or es p blank).place ≡ at
   at_y = ap (λ e. position qs e.place) (p_es blank)
@@ -222,13 +221,17 @@ module _ (items : List ItemFacts) (positions : List ℕ) (x : ItemFacts) (at p :
   qs_len = length-set (set positions y.place at) x.place p ∙ length-set positions y.place at
       ∙ sym (length-set positions x.place at)
 
-  pub hole_indexed : IsIndexed ys qs
-  hole_indexed = swap_indexed es ys ps qs at p kept (omega (arith, few, es_len)) (omega (arith, at_in, es_len))
-      (omega (arith, p_in, es_len)) hole_swapped ys_len at_x at_y at_rest qs_len
+  pub hole_moved : HasHole (set items at y) (set positions y.place at) x p
+  hole_moved = record {
+    indexed = swap_indexed es ys ps qs at p hole.indexed (omega (arith, few, es_len))
+        (omega (arith, hole.inside, es_len)) (omega (arith, p_in, es_len)) hole_swapped ys_len at_x at_y at_rest qs_len;
+    inside = omega (arith, p_in, mid_len);
+    ready = omega (arith, length-set positions y.place at, hole.ready);
+  }
 
-  pub hole_table : table_of ys qs ≡ table_of es ps
-  hole_table = swap_table es ys ps qs at p kept (omega (arith, few, es_len)) (omega (arith, at_in, es_len))
-      (omega (arith, p_in, es_len)) hole_swapped ys_len at_x at_y at_rest qs_len
+  pub hole_table : table_with (set items at y) (set positions y.place at) x p ≡ table_with items positions x at
+  hole_table = swap_table es ys ps qs at p hole.indexed (omega (arith, few, es_len))
+      (omega (arith, hole.inside, es_len)) (omega (arith, p_in, es_len)) hole_swapped ys_len at_x at_y at_rest qs_len
 
   pub hole_len : length ys ≡ length es
   hole_len = ys_len
@@ -270,7 +273,7 @@ module _ (es new : List ItemFacts) (ps : List ℕ) (x : ItemFacts) (is : new ≡
     | inr not ↦ inr (not, sym (put_not_x n not) ∙ e)
   ]
 
-  pub put_indexed : IsIndexed new put_places
+  put_indexed : IsIndexed new put_places
   put_indexed = record {
     kept = λ k d k_in. elim (cases_eq k (length es)) [
       | inl is_last ↦ ap (λ m. position put_places (get_or new m d).place) is_last
@@ -313,11 +316,25 @@ module _ (es new : List ItemFacts) (ps : List ℕ) (x : ItemFacts) (is : new ≡
           same_item es new k k k_in (omega (arith, put_len, k_in)) (λ d. put_front k d k_in)
     ]
 
-  pub put_table : table_of new put_places ≡ with_x
+  put_table : table_of new put_places ≡ with_x
   put_table = ext_get_or None (table_of new put_places) with_x
       (length-map put_places (slice_get new) ∙ length-set ps x.place (length es)
       ∙ sym (length-set (table_of es ps) x.place (Some x) ∙ length-map ps (slice_get es)))
       (λ n _. put_at n)
+
+  -- so it is as if it were put into a hole behind the others
+  put_same : set new (length es) x ≡ new
+  put_same = ap (set new (length es)) (sym (put_back blank)) ∙ set-get_or new (length es) blank
+
+  pub put_hole : HasHole new ps x (length es)
+  put_hole = record {
+    indexed = subst (λ l. IsIndexed l put_places) (sym put_same) put_indexed;
+    inside = omega (arith, put_len);
+    ready = ready;
+  }
+
+  pub put_with : table_with new ps x (length es) ≡ set (table_of es ps) x.place (Some x)
+  put_with = ap (λ l. table_of l put_places) put_same ∙ put_table
 
 -- ---- the last one is taken off
 
@@ -477,7 +494,7 @@ module _ (es rest : List ItemFacts) (ps : List ℕ) (x : ItemFacts) (is : es ≡
       not_out not e = not (own_places es ps kept k at d (omega (arith, k_rest, end_len)) (omega (arith, at_in, end_len))
           (e ∙ sym (ap (λ y. y.place) (out_is d))))
 
-    pub fill_indexed : IsIndexed filled moved_places
+    fill_indexed : IsIndexed filled moved_places
     fill_indexed = record {
       kept = filled_kept;
       inside = λ n k e some. elim (moved_old n k e some) [
@@ -520,7 +537,15 @@ module _ (es rest : List ItemFacts) (ps : List ℕ) (x : ItemFacts) (is : es ≡
         | inr not_x ↦ ap (slice_get filled) (moved_other n not_x not_out) ∙ same not_x not_out (position ps n) refl
       ]
 
-    pub fill_table : table_of filled moved_places ≡ without_out
+    -- the last one is to go into the hole that is left
+    pub fill_hole : HasHole rest (set ps out.place nowhere) x at
+    fill_hole = record {
+      indexed = fill_indexed;
+      inside = at_in;
+      ready = omega (arith, last_ready, length-set ps out.place nowhere);
+    }
+
+    pub fill_table : table_with rest (set ps out.place nowhere) x at ≡ without_out
     fill_table = ext_get_or None (table_of filled moved_places) without_out
         (length-map moved_places (slice_get filled) ∙ length-set (set ps out.place nowhere) x.place at
         ∙ length-set ps out.place nowhere

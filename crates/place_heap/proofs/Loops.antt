@@ -1,38 +1,35 @@
 -- What the loops of a heap keep: an item x that moves, the hole at, and the others.
-use Rattle.std.proofs.Common.{◌≡◌, ◌≢◌, ℕ, ◌+◌, ◌-◌, ◌*◌, ◌/◌, ◌<◌, ◌≤◌, true, false, List, length, get_or, set, take}
-use Rattle.std.proofs.Common.{drop, ap, ◌∙◌, sym, subst, arith, inl, inr, get_or-set_same, get_or-set_other, length-set}
-use Rattle.std.proofs.Common.{get_or-take, get_or-drop}
+use Rattle.std.proofs.Common.{◌≡◌, ◌≢◌, ℕ, ◌+◌, ◌-◌, ◌*◌, ◌/◌, ◌<◌, ◌≤◌, true, false, List, Option, length, get_or, set}
+use Rattle.std.proofs.Common.{take, drop, ap, ◌∙◌, sym, subst, arith, inl, inr, get_or-set_same, get_or-set_other}
+use Rattle.std.proofs.Common.{length-set, get_or-take, get_or-drop}
 use Rattle.std.proofs.lemmas.Bool.{cases_eq}
 use Rattle.std.proofs.lemmas.List.{get_or_default}
 use Rattle.place_heap.specs.Items.{ItemFacts, is_before}
-use Rattle.place_heap.specs.Table.{IsIndexed, nowhere, table_of, blank}
+use Rattle.place_heap.specs.Table.{HasHole, nowhere, table_with, blank}
 use Rattle.place_heap.specs.HeapOrder.{IsAhead, IsChild, IsHeap, IsHeapUp, IsHeapSave}
 use Rattle.place_heap.proofs.Swaps.{AreSwapped}
 use Rattle.place_heap.proofs.Ranking.{one_way}
 use Rattle.place_heap.proofs.Order.{ahead_from, IsFirstChild}
 use Rattle.place_heap.proofs.Order as order
-use Rattle.place_heap.proofs.Indexing.{hole_swapped, hole_indexed, hole_table, hole_len, y_ready}
+use Rattle.place_heap.proofs.Indexing.{hole_swapped, hole_moved, hole_table, hole_len, y_ready}
 use Rattle.place_heap.proofs.Counting.{CountsUp, CountsDown, up_more, down_more}
 
--- with x in the hole the items are indexed, and their table is that at the start
-pub record HasHole (es₀ : List ItemFacts) (ps₀ : List ℕ) (x : ItemFacts) (items : List ItemFacts)
-    (positions : List ℕ) (at : ℕ)
-    : Type 0 where
-  pub indexed : IsIndexed (set items at x) (set positions x.place at)
-  pub table : table_of (set items at x) (set positions x.place at) ≡ table_of es₀ ps₀
-  pub same_len : length items ≡ length es₀
-  pub at_in : at < length items
-  pub ready : x.place < length positions
+-- x belongs into the hole, and with it the table is that at the start
+pub record Moving (table : List (Option ItemFacts)) (len : ℕ) (x : ItemFacts) (items : List ItemFacts)
+    (positions : List ℕ) (at : ℕ) : Type 0 where
+  pub hole : HasHole items positions x at
+  pub same_table : table_with items positions x at ≡ table
+  pub same_len : length items ≡ len
 
-pub record UpLoop (es₀ : List ItemFacts) (ps₀ : List ℕ) (x : ItemFacts) (from start : ℕ) (items : List ItemFacts)
+pub record UpLoop (table : List (Option ItemFacts)) (len : ℕ) (x : ItemFacts) (from start : ℕ) (items : List ItemFacts)
     (positions : List ℕ) (at now : ℕ) : Type 0 where
-  pub hole : HasHole es₀ ps₀ x items positions at
+  pub moving : Moving table len x items positions at
   pub heap : IsHeapUp (set items at x) at
   pub count : CountsUp from start at now
 
-pub record DownLoop (es₀ : List ItemFacts) (ps₀ : List ℕ) (x : ItemFacts) (start : ℕ) (items : List ItemFacts)
+pub record DownLoop (table : List (Option ItemFacts)) (len : ℕ) (x : ItemFacts) (start : ℕ) (items : List ItemFacts)
     (positions : List ℕ) (at now : ℕ) : Type 0 where
-  pub hole : HasHole es₀ ps₀ x items positions at
+  pub moving : Moving table len x items positions at
   pub heap : IsHeapSave (set items at x) at
   pub count : CountsDown start at now
 
@@ -45,8 +42,8 @@ parent_high at = omega arith
 
 -- ---- a step: the item at p moves into the hole, and the hole to p
 
-module _ (es₀ : List ItemFacts) (ps₀ : List ℕ) (x : ItemFacts) (items : List ItemFacts) (positions : List ℕ) (at p : ℕ)
-    (few : length items ≤ nowhere) (hole : HasHole es₀ ps₀ x items positions at) (p_in : p < length items)
+module _ (table : List (Option ItemFacts)) (len : ℕ) (x : ItemFacts) (items : List ItemFacts) (positions : List ℕ)
+    (at p : ℕ) (few : length items ≤ nowhere) (moving : Moving table len x items positions at) (p_in : p < length items)
     (apart : p ≢ at) where
   abbrev y : ItemFacts
   y = get_or items p blank
@@ -58,33 +55,31 @@ module _ (es₀ : List ItemFacts) (ps₀ : List ℕ) (x : ItemFacts) (items : Li
   es_len = length-set items at x
 
   at_es : (d : ItemFacts) → get_or es at d ≡ x
-  at_es d = get_or-set_same items at x d hole.at_in
+  at_es d = get_or-set_same items at x d moving.hole.inside
 
   other_es : (k : ℕ) (d : ItemFacts) → k ≢ at → get_or es k d ≡ get_or items k d
   other_es k d not = get_or-set_other items at k x d not
 
-  pub moved_hole : HasHole es₀ ps₀ x (set items at y) (set positions y.place at) p
+  pub moved_hole : Moving table len x (set items at y) (set positions y.place at) p
   moved_hole = record {
-    indexed = hole_indexed items positions x at p few hole.ready hole.at_in p_in apart hole.indexed;
-    table = hole_table items positions x at p few hole.ready hole.at_in p_in apart hole.indexed ∙ hole.table;
-    same_len = length-set items at y ∙ hole.same_len;
-    at_in = omega (arith, length-set items at y, p_in);
-    ready = omega (arith, length-set positions y.place at, hole.ready);
+    hole = hole_moved items positions x at p few moving.hole p_in apart;
+    same_table = hole_table items positions x at p few moving.hole p_in apart ∙ moving.same_table;
+    same_len = length-set items at y ∙ moving.same_len;
   }
 
   pub moved_swap : AreSwapped es (set (set items at y) p x) at p
-  moved_swap = hole_swapped items positions x at p few hole.ready hole.at_in p_in apart hole.indexed
+  moved_swap = hole_swapped items positions x at p few moving.hole p_in apart
 
   pub moved_len : length (set (set items at y) p x) ≡ length es
-  moved_len = hole_len items positions x at p few hole.ready hole.at_in p_in apart hole.indexed
+  moved_len = hole_len items positions x at p few moving.hole p_in apart
 
   -- a comparison of x with the item at p, over the list with x in the hole
   pub x_is_ahead : is_before (get_or items p blank) x ≡ false → IsAhead es at p
-  x_is_ahead h = ahead_from es at p (omega (arith, hole.at_in, es_len)) (omega (arith, p_in, es_len))
+  x_is_ahead h = ahead_from es at p (omega (arith, moving.hole.inside, es_len)) (omega (arith, p_in, es_len))
       (ap (λ z. is_before z (get_or es at blank)) (other_es p blank apart) ∙ ap (is_before y) (at_es blank) ∙ h)
 
   pub p_is_ahead : is_before x (get_or items p blank) ≡ false → IsAhead es p at
-  p_is_ahead h = ahead_from es p at (omega (arith, p_in, es_len)) (omega (arith, hole.at_in, es_len))
+  p_is_ahead h = ahead_from es p at (omega (arith, p_in, es_len)) (omega (arith, moving.hole.inside, es_len))
       (ap (λ z. is_before z (get_or es p blank)) (at_es blank) ∙ ap (is_before x) (other_es p blank apart) ∙ h)
 
 -- ---- the child that comes first
@@ -149,9 +144,9 @@ first_of_all items x at c low high inside first = (
 
 -- ---- a step up, and where the item stays
 
-module _ (es₀ : List ItemFacts) (ps₀ : List ℕ) (x : ItemFacts) (from start : ℕ) (items : List ItemFacts)
+module _ (table : List (Option ItemFacts)) (len : ℕ) (x : ItemFacts) (from start : ℕ) (items : List ItemFacts)
     (positions : List ℕ)
-    (at now : ℕ) (kept : UpLoop es₀ ps₀ x from start items positions at now) (few : length items ≤ nowhere)
+    (at now : ℕ) (kept : UpLoop table len x from start items positions at now) (few : length items ≤ nowhere)
     (some : 0 < at)
     (above : ItemFacts) (above_is : above ≡ get_or items ((at - 1) / 4) above) where
   abbrev p : ℕ
@@ -161,7 +156,7 @@ module _ (es₀ : List ItemFacts) (ps₀ : List ℕ) (x : ItemFacts) (from start
   low = parent_low at some
 
   p_in : (at - 1) / 4 < length items
-  p_in = omega (arith, low, kept.hole.at_in)
+  p_in = omega (arith, low, kept.moving.hole.inside)
 
   p_apart : (at - 1) / 4 ≢ at
   p_apart e = omega (arith, low, e)
@@ -170,66 +165,68 @@ module _ (es₀ : List ItemFacts) (ps₀ : List ℕ) (x : ItemFacts) (from start
   above_at = above_is ∙ get_or_default items p above blank p_in
 
   p_parent : IsChild (set items at x) ((at - 1) / 4) at
-  p_parent = (low, parent_high at, omega (arith, length-set items at x, kept.hole.at_in))
+  p_parent = (low, parent_high at, omega (arith, length-set items at x, kept.moving.hole.inside))
 
   pub up_goes_on : (items' : List ItemFacts) (positions' : List ℕ) (next : ℕ) → is_before x above ≡ true
       → items' ≡ set items at above
       → positions' ≡ set positions above.place at → next ≡ now + 1
-      → UpLoop es₀ ps₀ x from start items' positions' ((at - 1) / 4) next
+      → UpLoop table len x from start items' positions' ((at - 1) / 4) next
   up_goes_on items' positions' next before items_is positions_is step =
       let y : ItemFacts = get_or items p blank in
-      let ahead : IsAhead (set items at x) at p = x_is_ahead es₀ ps₀ x items positions at p few kept.hole p_in p_apart
-      (one_way x y (ap (is_before x) (sym above_at) ∙ before)) in
-      let moved : UpLoop es₀ ps₀ x from start (set items at y) (set positions y.place at) p next = record {
-        hole = moved_hole es₀ ps₀ x items positions at p few kept.hole p_in p_apart;
+      let not_above : is_before y x ≡ false = one_way x y (ap (is_before x) (sym above_at) ∙ before) in
+      let ahead : IsAhead (set items at x) at p =
+      x_is_ahead table len x items positions at p few kept.moving p_in p_apart not_above in
+      let moved : UpLoop table len x from start (set items at y) (set positions y.place at) p next = record {
+        moving = moved_hole table len x items positions at p few kept.moving p_in p_apart;
         heap = order.up_step (set items at x) (set (set items at y) p x)
-            (moved_len es₀ ps₀ x items positions at p few kept.hole p_in p_apart) at p kept.heap p_parent ahead
-            (moved_swap es₀ ps₀ x items positions at p few kept.hole p_in p_apart);
+            (moved_len table len x items positions at p few kept.moving p_in p_apart) at p kept.heap p_parent ahead
+            (moved_swap table len x items positions at p few kept.moving p_in p_apart);
         count = up_more from start at p now next kept.count low step;
       } in
-      subst (λ l. UpLoop es₀ ps₀ x from start l positions' p next) (sym (items_is ∙ ap (set items at) above_at))
-      (subst (λ q. UpLoop es₀ ps₀ x from start (set items at y) q p next)
+      subst (λ l. UpLoop table len x from start l positions' p next) (sym (items_is ∙ ap (set items at) above_at))
+      (subst (λ q. UpLoop table len x from start (set items at y) q p next)
       (sym (positions_is ∙ ap (λ z. set positions z.place at) above_at)) moved)
 
   pub up_stays : is_before x above ≡ false → IsHeap (set items at x)
   up_stays before = order.up_done (set items at x) at p kept.heap p_parent
-      (p_is_ahead es₀ ps₀ x items positions at p few kept.hole p_in p_apart (ap (is_before x) (sym above_at) ∙ before))
+      (p_is_ahead table len x items positions at p few kept.moving p_in p_apart
+      (ap (is_before x) (sym above_at) ∙ before))
 
 -- ---- a step down, and where it ends
 
-module _ (es₀ : List ItemFacts) (ps₀ : List ℕ) (x : ItemFacts) (start : ℕ) (items : List ItemFacts) (positions : List ℕ)
-    (at now : ℕ) (kept : DownLoop es₀ ps₀ x start items positions at now) where
+module _ (table : List (Option ItemFacts)) (len : ℕ) (x : ItemFacts) (start : ℕ) (items : List ItemFacts)
+    (positions : List ℕ) (at now : ℕ) (kept : DownLoop table len x start items positions at now) where
   pub down_goes_on : length items ≤ nowhere → (c : ℕ) → at * 4 + 1 ≤ c → c ≤ at * 4 + 4 → c < length items
       → ((k : ℕ) → at * 4 + 1 ≤ k → k ≤ at * 4 + 4 → k < length items → IsAhead items c k)
       → (below : ItemFacts) → below ≡ get_or items c below
       → (items' : List ItemFacts) (positions' : List ℕ) (next : ℕ)
       → items' ≡ set items at below → positions' ≡ set positions below.place at → next ≤ now + 3
-      → DownLoop es₀ ps₀ x start items' positions' c next
+      → DownLoop table len x start items' positions' c next
   down_goes_on few c from to inside all below below_is items' positions' next items_is positions_is step =
       let y : ItemFacts = get_or items c blank in
       let below_at : below ≡ y = below_is ∙ get_or_default items c below blank inside in
       let apart : c ≢ at = λ e. omega (arith, from, e) in
-      let moved : DownLoop es₀ ps₀ x start (set items at y) (set positions y.place at) c next = record {
-        hole = moved_hole es₀ ps₀ x items positions at c few kept.hole inside apart;
+      let moved : DownLoop table len x start (set items at y) (set positions y.place at) c next = record {
+        moving = moved_hole table len x items positions at c few kept.moving inside apart;
         heap = order.down_step (set items at x) (set (set items at y) c x)
-            (moved_len es₀ ps₀ x items positions at c few kept.hole inside apart) at c kept.heap
+            (moved_len table len x items positions at c few kept.moving inside apart) at c kept.heap
             (first_of_all items x at c from to inside all)
-            (moved_swap es₀ ps₀ x items positions at c few kept.hole inside apart);
+            (moved_swap table len x items positions at c few kept.moving inside apart);
         count = down_more start at c now next kept.count from step;
       } in
-      subst (λ l. DownLoop es₀ ps₀ x start l positions' c next) (sym (items_is ∙ ap (set items at) below_at))
-      (subst (λ q. DownLoop es₀ ps₀ x start (set items at y) q c next)
+      subst (λ l. DownLoop table len x start l positions' c next) (sym (items_is ∙ ap (set items at) below_at))
+      (subst (λ q. DownLoop table len x start (set items at y) q c next)
       (sym (positions_is ∙ ap (λ z. set positions z.place at) below_at)) moved)
 
   pub down_ends : length items ≤ at * 4 + 1 → IsHeapUp (set items at x) at
   down_ends none = order.down_done (set items at x) at kept.heap (omega (arith, none, length-set items at x))
 
 -- the item that moves in has a place that is ready
-pub moved_ready : (es₀ : List ItemFacts) (ps₀ : List ℕ) (x : ItemFacts) (items : List ItemFacts)
+pub moved_ready : (table : List (Option ItemFacts)) (len : ℕ) (x : ItemFacts) (items : List ItemFacts)
     (positions : List ℕ) (at p : ℕ)
-    (y : ItemFacts) → length items ≤ nowhere → HasHole es₀ ps₀ x items positions at → p < length items → p ≢ at
+    (y : ItemFacts) → length items ≤ nowhere → Moving table len x items positions at → p < length items → p ≢ at
     → y ≡ get_or items p y
     → y.place < length positions
-moved_ready es₀ ps₀ x items positions at p y few hole p_in apart is =
-    let ready = y_ready items positions x at p few hole.ready hole.at_in p_in apart hole.indexed in
+moved_ready table len x items positions at p y few moving p_in apart is =
+    let ready = y_ready items positions x at p few moving.hole p_in apart in
     subst (λ z. z.place < length positions) (sym (is ∙ get_or_default items p y blank p_in)) ready

@@ -1,8 +1,9 @@
 -- The order of a heap, step by step.
 use Rattle.std.proofs.Common.{◌≡◌, ◌≢◌, ℕ, ◌+◌, ◌*◌, ◌<◌, ◌≤◌, false, List, length, get_or, set}
-use Rattle.std.proofs.Common.{◌++◌, ◌∷◌, [], ap, ◌∙◌, sym, subst, arith, inl, inr}
+use Rattle.std.proofs.Common.{◌++◌, ◌∷◌, [], refl, ap, ◌∙◌, sym, subst, arith, inl, inr}
 use Rattle.std.proofs.lemmas.Bool.{cases_eq}
 use Rattle.std.proofs.lemmas.List.{get_or_default, get_or_append_left, get_or-set_other, length_push, length-set}
+use Rattle.std.proofs.lemmas.List.{get_or_push, set-get_or}
 use Rattle.place_heap.proofs.Swaps.{AreSwapped}
 use Rattle.place_heap.specs.Items.{ItemFacts, is_before}
 use Rattle.place_heap.specs.Table.{blank}
@@ -100,6 +101,30 @@ module _ (es ys : List ItemFacts) (same_len : length ys ≡ length es) where
         (heap.others c k (λ e. omega (arith, e, first.0.0)) (λ e. omega (arith, e, below.0, first.0.0))
         (old_child c k below)));
   }
+
+-- ---- an item put last
+
+-- only that one may come before its parent
+pub put_up : (es new : List ItemFacts) (x : ItemFacts) → IsHeap es → new ≡ es ++ x ∷ []
+    → IsHeapUp (set new (length es) x) (length es)
+put_up es new x heap is = subst (λ l. IsHeapUp l (length es)) (sym (ap (set new (length es)) (sym back)
+    ∙ set-get_or new (length es) blank)) (record {
+      others = λ p k not child d. ap (λ y. is_before y (get_or new p d)) (front k d (below k child.2 not))
+          ∙ ap (is_before (get_or es k d)) (front p d (omega (arith, child.0, below k child.2 not)))
+          ∙ heap p k (child.0, child.1, below k child.2 not) d;
+      across = λ p k above below. absurd (omega (arith, below.0, below.2, len));
+    }) where
+      len : length new ≡ length es + 1
+      len = ap length is ∙ length_push es x
+
+      back : get_or new (length es) blank ≡ x
+      back = ap (λ l. get_or l (length es) blank) is ∙ get_or_push es x blank (length es) refl
+
+      front : (k : ℕ) (d : ItemFacts) → k < length es → get_or new k d ≡ get_or es k d
+      front k d inside = ap (λ l. get_or l k d) is ∙ get_or_append_left es (x ∷ []) d k inside
+
+      below : (k : ℕ) → k < length new → k ≢ length es → k < length es
+      below k inside not = omega (arith, inside, not, len)
 
 -- ---- the last item put at a position
 

@@ -1,5 +1,5 @@
 -- The order of items, as one by which they can be sorted.
-use Rattle.std.proofs.Common.{◌≡◌, ◌≢◌, ℕ, Bool, true, false, nat_lt, arith}
+use Rattle.std.proofs.Common.{◌≡◌, ◌≢◌, ℕ, Bool, true, false, nat_lt, refl, arith}
 use Rattle.dover_model.proofs.steps.EntryOrders.{less_one_way, less_onward, less_total}
 use Rattle.place_heap.specs.Items.{ItemFacts, less_or, is_before}
 
@@ -26,33 +26,34 @@ less_behind k l m h i = grind arith
 
 -- ---- items
 
-abbrev by_number : ItemFacts → ItemFacts → Bool
-by_number a b = less_or a.number b.number (nat_lt a.place b.place)
-
 abbrev by_tie : ItemFacts → ItemFacts → Bool
-by_tie a b = less_or a.tie b.tie (by_number a b)
+by_tie a b = less_or a.tie b.tie (nat_lt a.number b.number)
 
 -- no two come before each other
 pub one_way : (a b : ItemFacts) → is_before a b ≡ true → is_before b a ≡ false
 one_way a b = one_way_or a.key b.key (by_tie a b) (by_tie b a)
-    (one_way_or a.tie b.tie (by_number a b) (by_number b a)
-    (one_way_or a.number b.number (nat_lt a.place b.place) (nat_lt b.place a.place) (less_one_way a.place b.place)))
+    (one_way_or a.tie b.tie (nat_lt a.number b.number) (nat_lt b.number a.number) (less_one_way a.number b.number))
+
+-- so none before itself
+pub itself : (a : ItemFacts) → is_before a a ≡ false
+itself a = of (is_before a a) refl where
+  of : (b : Bool) → is_before a a ≡ b → is_before a a ≡ false
+  of true is = one_way a a is
+  of false is = is
 
 pub onward : (a b c : ItemFacts) → is_before a b ≡ true → is_before b c ≡ true → is_before a c ≡ true
 onward a b c = onward_or a.key b.key c.key (by_tie a b) (by_tie b c) (by_tie a c)
-    (onward_or a.tie b.tie c.tie (by_number a b) (by_number b c) (by_number a c)
-    (onward_or a.number b.number c.number (nat_lt a.place b.place) (nat_lt b.place c.place) (nat_lt a.place c.place)
-    (less_onward a.place b.place c.place)))
+    (onward_or a.tie b.tie c.tie (nat_lt a.number b.number) (nat_lt b.number c.number) (nat_lt a.number c.number)
+    (less_onward a.number b.number c.number))
 
 -- what isn't before b, which isn't before a, isn't before a
 pub behind : (a b c : ItemFacts) → is_before b a ≡ false → is_before c b ≡ false → is_before c a ≡ false
 behind a b c = behind_or a.key b.key c.key (by_tie b a) (by_tie c b) (by_tie c a)
-    (behind_or a.tie b.tie c.tie (by_number b a) (by_number c b) (by_number c a)
-    (behind_or a.number b.number c.number (nat_lt b.place a.place) (nat_lt c.place b.place) (nat_lt c.place a.place)
-    (less_behind a.place b.place c.place)))
+    (behind_or a.tie b.tie c.tie (nat_lt b.number a.number) (nat_lt c.number b.number) (nat_lt c.number a.number)
+    (less_behind a.number b.number c.number))
 
--- of two at different places one comes before the other
-pub total : (a b : ItemFacts) → a.place ≢ b.place → is_before a b ≡ false → is_before b a ≡ true
+-- of two with different numbers one comes before the other
+pub total : (a b : ItemFacts) → a.number ≢ b.number → is_before a b ≡ false → is_before b a ≡ true
 total a b apart = total_or a.key b.key (by_tie a b) (by_tie b a)
-    (total_or a.tie b.tie (by_number a b) (by_number b a)
-    (total_or a.number b.number (nat_lt a.place b.place) (nat_lt b.place a.place) (less_total a.place b.place apart)))
+    (total_or a.tie b.tie (nat_lt a.number b.number) (nat_lt b.number a.number)
+    (less_total a.number b.number apart))

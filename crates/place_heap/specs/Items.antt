@@ -12,9 +12,9 @@ pub record ItemFacts : Type 0 where
 abbrev pub less_or : (m n : ℕ) → Bool → Bool
 less_or m n rest = nat_lt m n || ((m == n) && rest)
 
--- a comes before b: by the key, then by the tie, by the number and by the place
+-- a comes before b: by the key, then by the tie and by the number
 abbrev pub is_before : ItemFacts → ItemFacts → Bool
-is_before a b = less_or a.key b.key (less_or a.tie b.tie (less_or a.number b.number (nat_lt a.place b.place)))
+is_before a b = less_or a.key b.key (less_or a.tie b.tie (nat_lt a.number b.number))
 
 -- the tie and the number as one, this one of 32 binary digits
 abbrev pub low_of : ItemFacts → ℕ

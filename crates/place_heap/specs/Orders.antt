@@ -35,7 +35,7 @@ dense_item place t = record {
   place = place;
 }
 
--- the items of two entries with numbers of their own, and values within the limit, come in the model's orders
+-- the items of two entries with values within the limit come in the model's orders
 pub record AreOrderedAs (v : Version) (a b : Entry) (p q : ℕ) : Type 0 where
   pub due : is_before (due_item v p a) (due_item v q b) ≡ is_due_before v a b
   pub latest : is_before (latest_item v p a) (latest_item v q b) ≡ is_start_before v a b

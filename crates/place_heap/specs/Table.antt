@@ -1,11 +1,13 @@
 -- A set of items, as a table that has each at its place.
-use Rattle.std.specs.Prelude.{◌≡◌, ◌≢◌, ℕ, ◌-◌, ◌^◌, ◌<◌, List, Option, map, length, slice_get, slice_index_or}
-use Rattle.std.specs.List.{filter_map}
-use Rattle.place_heap.specs.Items.{ItemFacts}
+use Rattle.std.specs.Prelude.{◌≡◌, ◌≢◌, ℕ, ◌-◌, ◌^◌, ◌<◌, List, Option, Some, None, false, map, length}
+use Rattle.std.specs.Prelude.{slice_get, slice_index_or, slice_set}
+use Rattle.place_heap.specs.Items.{ItemFacts, is_before}
 
--- the items in the order of their places
-abbrev pub items_of : List (Option ItemFacts) → List ItemFacts
-items_of table = filter_map (λ o. o) table
+-- the first item: it stands at its place, and none that stands at a place comes before it; or none stands anywhere
+abbrev pub IsFirst : List (Option ItemFacts) → Option ItemFacts → Type 0
+IsFirst table None = (place : ℕ) → slice_index_or table place None ≡ None
+IsFirst table (Some first) = (slice_index_or table first.place None ≡ Some first)
+    × ((place : ℕ) (i : ItemFacts) → slice_index_or table place None ≡ Some i → is_before i first ≡ false)
 
 -- ---- the table that a heap keeps
 
@@ -30,3 +32,15 @@ pub record IsIndexed (items : List ItemFacts) (positions : List ℕ) : Type 0 wh
   pub kept : (i : ℕ) (d : ItemFacts) → i < length items → position positions (slice_index_or items i d).place ≡ i
   pub inside : (p i : ℕ) → position positions p ≡ i → i ≢ nowhere → i < length items
   pub placed : (p i : ℕ) (d : ItemFacts) → position positions p ≡ i → i ≢ nowhere → (slice_index_or items i d).place ≡ p
+
+-- ---- a hole, which an item that moves leaves behind
+
+-- with x in the hole the items are indexed
+pub record HasHole (items : List ItemFacts) (positions : List ℕ) (x : ItemFacts) (hole : ℕ) : Type 0 where
+  pub indexed : IsIndexed (slice_set items hole x) (slice_set positions x.place hole)
+  pub inside : hole < length items
+  pub ready : x.place < length positions
+
+-- their table then
+abbrev pub table_with : List ItemFacts → List ℕ → ItemFacts → ℕ → List (Option ItemFacts)
+table_with items positions x hole = table_of (slice_set items hole x) (slice_set positions x.place hole)

@@ -1,16 +1,15 @@
 //! The heap.
-ghost use Rattle.std.specs.Prelude.{◌≡◌, ◌≢◌, ℕ, ◌+◌, ◌-◌, ◌*◌, ◌^◌, ◌<◌, ◌≤◌, [], ◌∷◌, ◌++◌, length, replicate};
-ghost use Rattle.std.specs.Prelude.{is_some, slice_set, slice_index_or, vec_len, vec_capacity, IfOk, IsOk, OnOk, OnErr};
+ghost use Rattle.std.specs.Prelude.{◌≡◌, ℕ, ◌+◌, ◌-◌, ◌*◌, ◌^◌, ◌<◌, ◌≤◌, [], ◌++◌, length, replicate};
+ghost use Rattle.std.specs.Prelude.{is_some, slice_set, slice_index_or, vec_len, vec_capacity, IsOk, OnOk, OnErr};
 ghost use Rattle.std.specs.Prelude.{count_by};
-ghost use Rattle.dover_model.specs.Orders.{first};
-ghost use Rattle.place_heap.specs.Items.{ItemFacts, is_before};
-ghost use Rattle.place_heap.specs.Table.{IsIndexed, table_of, items_of, position, nowhere};
+ghost use Rattle.place_heap.specs.Items.{ItemFacts};
+ghost use Rattle.place_heap.specs.Table.{IsFirst, IsIndexed, table_of, position};
 ghost use Rattle.place_heap.specs.Kept.{IsKept};
 ghost use Rattle.place_heap.specs.HeapOrder.{IsHeap};
 
 use crate::item::Item;
 use crate::rank::Rank;
-use crate::sift::{NOWHERE, put_last, put_last_at, settle, sift_up, take_last};
+use crate::sift::{NOWHERE, settle, sift_up, take_last, take_out};
 use comparison_count::Comparisons;
 use dover_model::Memory;
 use std::alloc::Global;
@@ -87,12 +86,13 @@ impl<R: Rank> Heap<R> {
     /// The item that comes before all others, if there is any.
     #[inline(always)]
     pub fn first(&self) -> Option<Item<R>>
-        ensures { result ≡ first is_before (items_of self.now) }
+        ensures { IsFirst self.now result }
     {
         self.items.first().copied()
     }
 
     /// Puts an item in at its place, by at most as many comparisons as the length plus one has binary digits.
+    #[inline(always)]
     pub fn insert<L: Ledger>(&mut self, item: Item<R>, comparisons: &mut Comparisons<L>)
         requires ready { item.place < length self.old }
         requires free { slice_index_or self.old item.place None ≡ None }
@@ -104,6 +104,7 @@ impl<R: Rank> Heap<R> {
 
     /// Takes the item at the place out, if there is one, by at most three comparisons for each binary digit of the
     /// length plus one.
+    #[inline(always)]
     pub fn remove<L: Ledger>(&mut self, place: u32, comparisons: &mut Comparisons<L>)
         ensures out { self.new ≡ slice_set self.old place None }
         ensures count { (d : ℕ) → count_by is_some self.old + 1 < 2 ^ d → comparisons.new ≤ comparisons.old + 3 * d }
@@ -132,6 +133,7 @@ fn position_of(positions: &[u32], place: u32) -> u32
 }
 
 // Puts an item in.
+#[inline(always)]
 fn put<R: Rank, L: Ledger>(
     items: &mut Vec<Item<R>>,
     positions: &mut [u32],
@@ -152,12 +154,13 @@ fn put<R: Rank, L: Ledger>(
     ensures heap { IsHeap items.new.items }
     ensures count { (d : ℕ) → length items.old.items + 1 < 2 ^ d → comparisons.new ≤ comparisons.old + d }
 {
-    let at = items.len();
-    put_last(items, positions, item);
-    sift_up(items, positions, at, comparisons);
+    let last = items.len();
+    items.push_reserved(item);
+    sift_up(items, positions, item, last, comparisons);
 }
 
 // Takes the item at a position out.
+#[inline(always)]
 fn take_at<R: Rank, L: Ledger>(
     items: &mut Vec<Item<R>>,
     positions: &mut [u32],
@@ -180,6 +183,6 @@ fn take_at<R: Rank, L: Ledger>(
         take_last(items, positions);
         return;
     }
-    put_last_at(items, positions, at);
-    settle(items, positions, at, comparisons);
+    let last = take_out(items, positions, at);
+    settle(items, positions, last, at, comparisons);
 }

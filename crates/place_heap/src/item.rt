@@ -9,8 +9,8 @@ use std::marker::Model;
 use std::mem::size_of;
 use std::sync::ledger::Ledger;
 
-/// A job as a heap keeps it: the key and the tie that give its order, its number, and the place where the caller
-/// keeps it. The rank says in how many bytes.
+/// A job as a heap keeps it: the key, the tie and the number that give its order, and the place where the caller keeps
+/// it. The rank says in how many bytes.
 pub struct Item<R: Rank> {
     rank: R,
 }

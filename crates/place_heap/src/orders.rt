@@ -1,5 +1,5 @@
 //! How the items of jobs come in the model's orders.
-ghost use Rattle.std.specs.Prelude.{◌≡◌, ◌≢◌, ◌≤◌, ℕ, true};
+ghost use Rattle.std.specs.Prelude.{◌≡◌, ◌≤◌, ℕ, true};
 ghost use Rattle.dover_model.specs.Limits.{most_value};
 ghost use Rattle.dover_model.specs.declared.events.Entry.{Entry};
 ghost use Rattle.dover_model.specs.declared.events.Version.{Version};
@@ -27,13 +27,13 @@ pub fn tie_of(version: Version, value: u64) -> u32
 
 /// Items whose key is a deadline, or a latest start, come as the model's entries do, at whatever places they are kept.
 pub fn items_come_as_entries()
-    ensures { (v : Version) (a b : Entry) (p q : ℕ) → a.number ≢ b.number → a.value ≤ most_value → b.value ≤ most_value
+    ensures { (v : Version) (a b : Entry) (p q : ℕ) → a.value ≤ most_value → b.value ≤ most_value
         → AreOrderedAs v a b p q }
 {}
 
 /// Items by density come as the model orders waiting jobs in a pressed state of version Four, at whatever places they
 /// are kept.
 pub fn dense_items_come_as_jobs()
-    ensures { (a b : Task) (p q : ℕ) → a.number ≢ b.number → IsJob a.job → IsJob b.job
+    ensures { (a b : Task) (p q : ℕ) → IsJob a.job → IsJob b.job
         → is_before (dense_item p a) (dense_item q b) ≡ waiting_order Four true a b }
 {}

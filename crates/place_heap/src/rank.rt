@@ -1,5 +1,5 @@
 //! How the four numbers of an item are kept.
-ghost use Rattle.std.specs.Prelude.{◌≡◌, ◌+◌, ◌*◌, ◌<◌, ◌^◌, nat_lt};
+ghost use Rattle.std.specs.Prelude.{◌≡◌, ◌+◌, ◌*◌, ◌<◌, ◌^◌};
 ghost use Rattle.std.proofs.Common.{ap};
 ghost use Rattle.place_heap.specs.Items.{ItemFacts, is_before, facts_of, low_of};
 ghost use Rattle.place_heap.specs.Ranks.{low_back};
@@ -9,7 +9,7 @@ use std::mem::size_of;
 // How many numbers a job may have, which is what a tie counts for beside one.
 const NUMBERS: u128 = 1 << 32;
 
-// What the tie and the number count for beside the place.
+// What the key counts for beside the tie and the number.
 const WORD: u128 = 1 << 64;
 
 /// The four numbers of an item, kept so that two are compared fast.
@@ -30,15 +30,6 @@ pub trait Rank: Copy {
     /// Whether it comes before the other.
     fn is_before(self, other: Self) -> bool
         ensures { result ≡ is_before (facts self) (facts other) };
-}
-
-// Whether a place comes before another, which is asked where two items are of the same job.
-#[cold]
-#[inline(never)]
-fn is_earlier(place: u32, other: u32) -> bool
-    ensures { result ≡ nat_lt place other }
-{
-    place < other
 }
 
 /// A key of one word, and a tie below 2^32 in another with the number.
@@ -65,12 +56,12 @@ impl ShortRank {
         }
     }
 
-    // The tie, the number and the place as one.
+    // The key, the tie and the number as one.
     #[inline(always)]
-    fn tail(self) -> u128
-        ensures { result ≡ self.low * 2 ^ 64 + self.place }
+    fn order(self) -> u128
+        ensures { result ≡ self.key * 2 ^ 64 + self.low }
     {
-        self.low as u128 * WORD + self.place as u128
+        self.key as u128 * WORD + self.low as u128
     }
 
     /// The key.
@@ -96,7 +87,7 @@ impl Rank for ShortRank {
 
     #[inline(always)]
     fn is_before(self, other: ShortRank) -> bool {
-        self.key < other.key || (self.key == other.key && self.tail() < other.tail())
+        self.order() < other.order()
     }
 }
 
@@ -143,9 +134,6 @@ impl Rank for LongRank {
         if self.key != other.key {
             return self.key < other.key;
         }
-        if self.low != other.low {
-            return self.low < other.low;
-        }
-        is_earlier(self.place, other.place)
+        self.low < other.low
     }
 }

@@ -1,9 +1,9 @@
 //! Items in the order of a heap, beside the position of each place. An item that moves leaves a hole into which others
 //! move, until it is put where it belongs.
-ghost use Rattle.std.specs.Prelude.{◌≡◌, ◌≢◌, ℕ, ◌+◌, ◌*◌, ◌^◌, ◌<◌, ◌≤◌, [], ◌∷◌, ◌++◌, false};
-ghost use Rattle.std.specs.Prelude.{length, slice_set, slice_index_or, vec_len, vec_capacity};
-ghost use Rattle.place_heap.specs.Items.{ItemFacts, is_before};
-ghost use Rattle.place_heap.specs.Table.{IsIndexed, table_of};
+ghost use Rattle.std.specs.Prelude.{◌≡◌, ℕ, ◌+◌, ◌*◌, ◌^◌, ◌<◌, ◌≤◌, [], ◌∷◌, ◌++◌};
+ghost use Rattle.std.specs.Prelude.{length, slice_set, slice_index_or, vec_capacity};
+ghost use Rattle.place_heap.specs.Items.{ItemFacts};
+ghost use Rattle.place_heap.specs.Table.{HasHole, IsIndexed, table_of, table_with};
 ghost use Rattle.place_heap.specs.HeapOrder.{IsAhead, IsHeap, IsHeapUp, IsHeapSave};
 
 use crate::item::Item;
@@ -27,25 +27,24 @@ fn set_at<R: Rank>(items: &mut [Item<R>], positions: &mut [u32], at: usize, item
     items[at] = item;
 }
 
-/// Moves an item up to where its parent comes before it.
+/// Moves the hole up to where the item's parent comes before it, and puts the item there.
 #[inline(always)]
 pub(crate) fn sift_up<R: Rank, L: Ledger>(
     items: &mut [Item<R>],
     positions: &mut [u32],
-    from: usize,
+    item: Item<R>,
+    hole: usize,
     comparisons: &mut Comparisons<L>,
 )
-    requires indexed { IsIndexed items.old positions.old }
     requires few { length items.old < 2 ^ 32 }
-    requires from { from < length items.old }
-    requires heap { IsHeapUp items.old from }
+    requires hole { HasHole items.old positions.old item hole }
+    requires heap { IsHeapUp (slice_set items.old hole item) hole }
     ensures indexed { IsIndexed items.new positions.new }
-    ensures table { table_of items.new positions.new ≡ table_of items.old positions.old }
+    ensures table { table_of items.new positions.new ≡ table_with items.old positions.old item hole }
     ensures heap { IsHeap items.new }
     ensures count { (d : ℕ) → length items.old < 2 ^ d → 2 * comparisons.new ≤ 2 * comparisons.old + d + 1 }
 {
-    let item = items[from];
-    let mut at = from;
+    let mut at = hole;
     while at > 0 {
         let parent = (at - 1) / 4;
         let above = items[parent];
@@ -148,75 +147,32 @@ fn first_child<R: Rank, L: Ledger>(
     first_of_few(items, low, comparisons)
 }
 
-// Takes the item at a position out of the order, down to where it has no children: each time the child that comes
-// first moves up. Answers where it ends. Nothing is compared with the item itself, since a heap's last one seldom
-// belongs higher than that.
+/// Moves the hole down to where it has no children, each time to the child that comes first, and then up to where the
+/// item belongs. Nothing is compared with the item on the way down, since a heap's last one seldom belongs higher.
 #[inline(always)]
-fn sink<R: Rank, L: Ledger>(
+pub(crate) fn settle<R: Rank, L: Ledger>(
     items: &mut [Item<R>],
     positions: &mut [u32],
-    from: usize,
+    item: Item<R>,
+    hole: usize,
     comparisons: &mut Comparisons<L>,
-) -> usize
-    requires indexed { IsIndexed items.old positions.old }
+)
     requires few { length items.old < 2 ^ 32 }
-    requires from { from < length items.old }
-    requires heap { IsHeapSave items.old from }
+    requires hole { HasHole items.old positions.old item hole }
+    requires heap { IsHeapSave (slice_set items.old hole item) hole }
     ensures indexed { IsIndexed items.new positions.new }
-    ensures table { table_of items.new positions.new ≡ table_of items.old positions.old }
-    ensures len { length items.new ≡ length items.old }
-    ensures inside { result < length items.new }
-    ensures heap { IsHeapUp items.new result }
-    ensures count { (d : ℕ) → length items.old + 2 < 2 ^ d → 2 * comparisons.new ≤ 2 * comparisons.old + 3 * d + 3 }
+    ensures table { table_of items.new positions.new ≡ table_with items.old positions.old item hole }
+    ensures heap { IsHeap items.new }
+    ensures count { (d : ℕ) → length items.old + 2 < 2 ^ d → comparisons.new ≤ comparisons.old + 3 * d }
 {
-    let item = items[from];
-    let mut at = from;
+    let mut at = hole;
     while at * 4 + 1 < items.len() {
         let child = first_child(items, at, comparisons);
         let below = items[child];
         set_at(items, positions, at, below);
         at = child;
     }
-    set_at(items, positions, at, item);
-    at
-}
-
-/// Moves an item up or down to where it belongs.
-pub(crate) fn settle<R: Rank, L: Ledger>(
-    items: &mut [Item<R>],
-    positions: &mut [u32],
-    at: usize,
-    comparisons: &mut Comparisons<L>,
-)
-    requires indexed { IsIndexed items.old positions.old }
-    requires few { length items.old < 2 ^ 32 }
-    requires at { at < length items.old }
-    requires heap { IsHeapSave items.old at }
-    ensures indexed { IsIndexed items.new positions.new }
-    ensures table { table_of items.new positions.new ≡ table_of items.old positions.old }
-    ensures heap { IsHeap items.new }
-    ensures count { (d : ℕ) → length items.old + 2 < 2 ^ d → comparisons.new ≤ comparisons.old + 3 * d }
-{
-    let leaf = sink(items, positions, at, comparisons);
-    sift_up(items, positions, leaf, comparisons);
-}
-
-/// Puts an item last.
-pub(crate) fn put_last<R: Rank>(items: &mut Vec<Item<R>>, positions: &mut [u32], item: Item<R>)
-    requires room { vec_len items.old < vec_capacity items.old }
-    requires few { length items.old.items + 1 < 2 ^ 32 }
-    requires ready { item.place < length positions.old }
-    requires free { slice_index_or (table_of items.old.items positions.old) item.place None ≡ None }
-    requires indexed { IsIndexed items.old.items positions.old }
-    ensures last { items.new.items ≡ items.old.items ++ item ∷ [] }
-    ensures capacity { vec_capacity items.old ≤ vec_capacity items.new }
-    ensures indexed { IsIndexed items.new.items positions.new }
-    ensures table { table_of items.new.items positions.new
-        ≡ slice_set (table_of items.old.items positions.old) item.place (Some item) }
-{
-    let at = items.len();
-    items.push(item).unwrap();
-    positions[item.place() as usize] = at as u32;
+    sift_up(items, positions, item, at, comparisons);
 }
 
 /// Takes the last item off.
@@ -236,20 +192,24 @@ pub(crate) fn take_last<R: Rank>(items: &mut Vec<Item<R>>, positions: &mut [u32]
     positions[last.place() as usize] = NOWHERE;
 }
 
-/// Takes the item at a position out, and puts the last one there.
-pub(crate) fn put_last_at<R: Rank>(items: &mut Vec<Item<R>>, positions: &mut [u32], at: usize)
+/// Takes the item at a position out, which leaves a hole, and the last one off, which is to go there.
+pub(crate) fn take_out<R: Rank>(
+    items: &mut Vec<Item<R>>,
+    positions: &mut [u32],
+    at: usize,
+) -> Item<R>
     requires at { at + 1 < length items.old.items }
     requires few { length items.old.items < 2 ^ 32 }
     requires indexed { IsIndexed items.old.items positions.old }
     requires heap { IsHeap items.old.items }
     ensures fewer { length items.new.items + 1 ≡ length items.old.items }
     ensures capacity { vec_capacity items.new ≡ vec_capacity items.old }
-    ensures indexed { IsIndexed items.new.items positions.new }
-    ensures table { (d : ItemFacts) → table_of items.new.items positions.new
+    ensures hole { HasHole items.new.items positions.new result at }
+    ensures table { (d : ItemFacts) → table_with items.new.items positions.new result at
         ≡ slice_set (table_of items.old.items positions.old) (slice_index_or items.old.items at d).place None }
-    ensures heap { IsHeapSave items.new.items at }
+    ensures heap { IsHeapSave (slice_set items.new.items at result) at }
 {
     let last = items.pop().unwrap();
     positions[items[at].place() as usize] = NOWHERE;
-    set_at(items, positions, at, last);
+    last
 }

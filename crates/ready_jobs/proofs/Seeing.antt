@@ -26,7 +26,8 @@ use Rattle.held_stack.specs.Stack.{IsByDeadline, IsDueBeforeAll}
 use Rattle.waiting_pool.specs.Pools.{HaveOwnNumbers}
 use Rattle.ready_jobs.specs.Parts.{Parted, HaveRole, HaveRoles, ready_of, state_of, head_of}
 use Rattle.waiting_pool.proofs.Reordering.{first_is, first_only}
-use Rattle.ready_jobs.proofs.Views.{own_some, apart_or_one}
+use Rattle.waiting_pool.proofs.Pooling.{apart_or_one}
+use Rattle.ready_jobs.proofs.Views.{own_some}
 
 -- ---- those that pass
 

@@ -1,7 +1,6 @@
 -- The view of jobs in another order.
-use Rattle.std.proofs.Common.{◌≡◌, ◌≢◌, inl, inr, ℕ, ◌+◌, ◌-◌, List, map, sym, ap, ◌∙◌, Bool, true, false, nat_lt}
+use Rattle.std.proofs.Common.{◌≡◌, ℕ, ◌+◌, ◌-◌, List, map, sym, ap, ◌∙◌, Bool, true, false, nat_lt}
 use Rattle.std.proofs.Common.{filter, sum_by}
-use Rattle.std.proofs.lemmas.Bool.{cases_eq}
 use Rattle.dover_model.specs.declared.events.Version.{Version}
 use Rattle.dover_model.specs.declared.events.Entry.{Entry}
 use Rattle.dover_model.specs.declared.events.Task.{Task}
@@ -16,19 +15,11 @@ use Rattle.dover_model.proofs.lists.Tests.{never}
 use Rattle.waiting_pool.specs.Reordered.{IsReordered}
 use Rattle.waiting_pool.specs.Pools.{HaveOwnNumbers}
 use Rattle.waiting_pool.proofs.Reordering.{filtered, mapped, found_same, first_same, first_same_of, least_same}
+use Rattle.waiting_pool.proofs.Pooling.{apart_or_one}
 
 -- of some of them
 pub own_some : (p : Task → Bool) (tasks : List Task) → HaveOwnNumbers tasks → HaveOwnNumbers (filter p tasks)
 own_some p tasks own t u mt mu = own t u (member_filter p tasks t mt).0 (member_filter p tasks u mu).0
-
--- of two jobs of a list one comes before the other, or they are one
-pub apart_or_one : (before : Task → Task → Bool)
-    → ((a b : Task) → a.number ≢ b.number → before a b ≡ false → before b a ≡ true) → (tasks : List Task)
-    → HaveOwnNumbers tasks → EachTwo (λ t u. before t u ≡ false → before u t ≡ false → t ≡ u) tasks
-apart_or_one before total tasks own t u mt mu ahead back = elim (cases_eq t.number u.number) [
-  | inl same ↦ own t u mt mu same
-  | inr other ↦ never (sym back ∙ total t u other ahead)
-]
 
 -- the first waiting job
 pub waiting_still : (version : Version) (dense : Bool) (xs ys : List Task) → IsReordered xs ys → HaveOwnNumbers xs

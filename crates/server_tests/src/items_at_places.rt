@@ -1,5 +1,5 @@
 //! A heap of items beside a list of them by their places, and the order of two items.
-ghost use Rattle.std.specs.Prelude.{◌≡◌, ◌<◌, ◌^◌, length, IfSome};
+ghost use Rattle.std.specs.Prelude.{◌≡◌, ◌<◌, length, IfSome};
 
 use comparison_count::Comparisons;
 use dover_model::Version;
@@ -8,7 +8,7 @@ use place_heap::{Heap, Item, LongRank, ShortRank, tie_of};
 use std::marker::Brand;
 use std::sync::ledger::{Blank, Ledger};
 
-// A key, a tie, a number and a place, compared in this order.
+// A key, a tie, a number and a place, in which no two agree in the first three.
 type Row = (u64, u32, u32, u32);
 
 // What is listed of a place without an item: it comes behind all rows.
@@ -20,13 +20,14 @@ fn draw(state: &mut u64) -> u64 {
     *state / 65536
 }
 
-// The numbers of an item at this place, with many ties.
+// The numbers of an item at this place, below 200, with many ties. The number is that of no other place.
 fn drawn(state: &mut u64, place: u32) -> Row
+    requires { place < 200 }
     ensures { result.3 ≡ place }
 {
     let key = draw(state) % 8;
     let tie = (draw(state) % 4) as u32;
-    let number = (draw(state) % 4) as u32;
+    let number = (draw(state) % 4) as u32 * 200 + (199 - place);
     (key, tie, number, place)
 }
 
@@ -79,7 +80,7 @@ fn goes_as_listed<L: Ledger>(
 type Due = (u64, u64, u32);
 
 /// Two jobs, at the places 0 and 1, and the place of the one that comes first.
-static TIES: [(Version, Due, Due, u32); 6] = [
+static TIES: [(Version, Due, Due, u32); 5] = [
     (Version::One, (0, 1, 7), (1, 1_000_000_000, 0), 0),
     (Version::Two, (1, 1_000_000_000, 0), (0, 1, 7), 1),
     (
@@ -93,12 +94,6 @@ static TIES: [(Version, Due, Due, u32); 6] = [
         (1_000_000_000_000, 1, 3),
         (1_000_000_000_000, 1_000_000_000, 999_999),
         1,
-    ),
-    (
-        Version::Two,
-        (1_000_000_000_000, 1, 3),
-        (1_000_000_000_000, 1, 3),
-        0,
     ),
     (
         Version::Three,

@@ -10,7 +10,6 @@ use Rattle.dover_model.specs.declared.events.Task.{Task}
 use Rattle.dover_model.proofs.lists.Members.{some_same}
 use Rattle.dover_model.proofs.lists.Tests.{none_is_some}
 use Rattle.place_heap.specs.Items.{ItemFacts}
-use Rattle.place_heap.specs.Table.{items_of}
 use Rattle.waiting_pool.specs.Reordered.{IsReordered}
 use Rattle.waiting_pool.specs.Pools.{jobs_at, items_from, times, is_free, AreFree}
 use Rattle.waiting_pool.specs.Pools.{item_of}
@@ -291,35 +290,18 @@ module _ (item : ℕ → Task → ItemFacts) where
   each p t = Some (item p t)
 
   -- each item is that of a job at a place
-  pub item_job : (p : ℕ) (slots : List (Option Task)) (k : ℕ) (i : ItemFacts)
-      → IsMember i (items_of (items_from each p slots ++ replicate k None))
-      → (n : ℕ) × (t : Task) × (slice_get slots n ≡ Some (Some t)) × (i ≡ item (p + n) t)
-  item_job p [] zero i m = absurd m
-  item_job p [] (suc k) i m = item_job p [] k i m
-  item_job p (None ∷ slots) k i m =
-      let rest = item_job (suc p) slots k i m in
-      let same : suc p + rest.0 ≡ p + suc rest.0 = omega arith in
-      (suc rest.0, rest.1, rest.2, rest.3 ∙ ap (λ n. item n rest.1) same)
-  item_job p (Some t ∷ slots) k i (inl e) = let same : p ≡ p + 0 = omega arith in
-      (0, t, refl, e ∙ ap (λ n. item n t) same)
-  item_job p (Some t ∷ slots) k i (inr m) =
-      let rest = item_job (suc p) slots k i m in
-      let same : suc p + rest.0 ≡ p + suc rest.0 = omega arith in
-      (suc rest.0, rest.1, rest.2, rest.3 ∙ ap (λ n. item n rest.1) same)
-
-  -- and each job at a place has its item
-  pub job_item : (p : ℕ) (slots : List (Option Task)) (k n : ℕ) (t : Task) → slice_get slots n ≡ Some (Some t)
-      → IsMember (item (p + n) t) (items_of (items_from each p slots ++ replicate k None))
-  job_item p [] k n t at = none_is_some at
-  job_item p (None ∷ slots) k zero t at = none_is_some (some_same None (Some t) at)
-  job_item p (Some u ∷ slots) k zero t at =
-      let same : p + 0 ≡ p = omega arith in
-      inl (ap (λ n. item n t) same ∙ ap (item p) (sym (some_same u t (some_same (Some u) (Some t) at))))
-  job_item p (None ∷ slots) k (suc n) t at =
+  pub item_job : (p : ℕ) (slots : List (Option Task)) (k n : ℕ) (i : ItemFacts)
+      → get_or (items_from each p slots ++ replicate k None) n None ≡ Some i
+      → (t : Task) × (slice_get slots n ≡ Some (Some t)) × (i ≡ item (p + n) t)
+  item_job p [] k n i at = none_is_some (sym (none_there k n) ∙ at) where
+    none_there : (k n : ℕ) → get_or (replicate {A = Option ItemFacts} k None) n None ≡ None
+    none_there zero n = refl
+    none_there (suc k) zero = refl
+    none_there (suc k) (suc n) = none_there k n
+  item_job p (None ∷ slots) k zero i at = none_is_some at
+  item_job p (Some t ∷ slots) k zero i at = let same : p ≡ p + 0 = omega arith in
+      (t, refl, sym (some_same (item p t) i at) ∙ ap (λ n. item n t) same)
+  item_job p (o ∷ slots) k (suc n) i at =
+      let rest = item_job (suc p) slots k n i at in
       let same : suc p + n ≡ p + suc n = omega arith in
-      subst (λ m. IsMember (item m t) (items_of (items_from each (suc p) slots ++ replicate k None))) same
-      (job_item (suc p) slots k n t at)
-  job_item p (Some u ∷ slots) k (suc n) t at =
-      let same : suc p + n ≡ p + suc n = omega arith in
-      inr (subst (λ m. IsMember (item m t) (items_of (items_from each (suc p) slots ++ replicate k None)))
-      same (job_item (suc p) slots k n t at))
+      (rest.0, rest.1, rest.2 ∙ ap (λ m. item m rest.0) same)

@@ -1,32 +1,32 @@
 -- Jobs at places, and the heaps over them.
-use Rattle.std.proofs.Common.{◌≡◌, ℕ, zero, suc, ◌+◌, ◌-◌, ◌≤◌, ◌<◌, ◌⊎◌, inl, inr, List, [], ◌∷◌, ◌++◌, length, set}
-use Rattle.std.proofs.Common.{get_or, replicate, refl, sym, ap, ◌∙◌, subst, Bool, true, false, arith, Option}
+use Rattle.std.proofs.Common.{◌≡◌, ◌≢◌, ℕ, zero, suc, ◌+◌, ◌-◌, ◌≤◌, ◌<◌, inl, inr, List, [], ◌∷◌, ◌++◌, length}
+use Rattle.std.proofs.Common.{set, get_or, replicate, refl, sym, ap, ◌∙◌, subst, Bool, true, false, arith, Option}
 use Rattle.std.proofs.Common.{Some, None, option_map, is_some, Result, Ok, Err, OnOk, IsErr, slice_get}
-use Rattle.std.proofs.Common.{if◌then◌else◌, fold, count_by, append_assoc, length-append, append-nil}
+use Rattle.std.proofs.Common.{count_by, append_assoc, length-append, append-nil}
 use Rattle.std.proofs.Common.{OnErr}
 use Rattle.std.proofs.lemmas.Bool.{cases_eq}
 use Rattle.std.proofs.lemmas.List.{length-replicate, replicate-append-replicate}
-use Rattle.dover_model.specs.Common.{IsJob, entry_of, first, due_first, starts_before, waiting_order, by_density}
-use Rattle.dover_model.specs.Common.{earlier, IsMember, Each, EachTwo}
+use Rattle.dover_model.specs.Common.{IsJob, entry_of, first, is_start_before, starts_before, waiting_order, by_density}
+use Rattle.dover_model.specs.Common.{IsMember, Each, EachTwo, IsStrictOrder}
 use Rattle.dover_model.specs.declared.events.Version.{Version}
 use Rattle.dover_model.specs.declared.events.Version.TheVariants.{One, Two, Three, Four}
 use Rattle.dover_model.specs.declared.events.Task.{Task}
 use Rattle.dover_model.proofs.valid.JobLimits.{job_limits}
-use Rattle.dover_model.proofs.lists.Members.{reduce_none}
-use Rattle.dover_model.proofs.lists.Tests.{never}
+use Rattle.dover_model.proofs.lists.Tests.{never, none_is_some}
+use Rattle.dover_model.proofs.steps.DensityOrder.{HasWork, waiting_one_way, waiting_onward, waiting_total}
+use Rattle.dover_model.proofs.steps.EntryOrders.{strict_by}
 use Rattle.place_heap.specs.Items.{ItemFacts, is_before}
 use Rattle.place_heap.specs.Orders.{due_item, latest_item, dense_item}
-use Rattle.place_heap.specs.Table.{items_of}
-use Rattle.place_heap.proofs.Ranking.{one_way, onward, total}
-use Rattle.place_heap.proofs.Tying.{ordered_as, due_itself, latest_itself}
-use Rattle.place_heap.proofs.Densities.{dense_law, dense_itself}
+use Rattle.place_heap.specs.Table.{IsFirst}
+use Rattle.place_heap.proofs.Tying.{ordered_as}
+use Rattle.place_heap.proofs.Densities.{dense_law}
 use Rattle.waiting_pool.specs.Pools.{HaveOwnNumbers, AreModest, jobs_at, items_from, HasItems}
 use Rattle.waiting_pool.specs.Pools.{IsPool, HasRoom, IsPlaceOf, item_of, item_by_deadline, item_by_latest}
 use Rattle.waiting_pool.specs.Pools.{item_by_density, orders_of, IsByDensity}
-use Rattle.waiting_pool.proofs.Reordering.{as_many, first_is, first_only}
+use Rattle.waiting_pool.proofs.Reordering.{as_many, first_only_of}
 use Rattle.waiting_pool.proofs.Places.{place_of, job_there, last_free, free_taken, free_again, free_more}
 use Rattle.waiting_pool.proofs.Places.{within, same_length, jobs_in, jobs_out, each, items_length, item_at, item_set}
-use Rattle.waiting_pool.proofs.Places.{item_count, item_job, job_item}
+use Rattle.waiting_pool.proofs.Places.{item_count, item_job}
 
 -- what is said of a success says nothing of an error
 pub not_ok : {T E : Type 0} (P : Type 0) (r : Result T E) → IsErr r → OnOk r P
@@ -35,192 +35,115 @@ not_ok P (Err e) is = tt
 
 -- ---- the first
 
-beside : {X : Type 0} (t best : X) (tasks : List X) (x : X) → IsMember x (best ∷ tasks)
-    → IsMember x (best ∷ t ∷ tasks)
-beside t best tasks x (inl e) = inl e
-beside t best tasks x (inr m) = inr (inr m)
+-- of two jobs of a list one comes before the other, or they are one
+pub apart_or_one : (before : Task → Task → Bool)
+    → ((a b : Task) → a.number ≢ b.number → before a b ≡ false → before b a ≡ true) → (tasks : List Task)
+    → HaveOwnNumbers tasks → EachTwo (λ t u. before t u ≡ false → before u t ≡ false → t ≡ u) tasks
+apart_or_one before total tasks own t u mt mu ahead back = elim (cases_eq t.number u.number) [
+  | inl same ↦ own t u mt mu same
+  | inr other ↦ never (sym back ∙ total t u other ahead)
+]
 
--- of a list whose jobs have numbers of their own, in an order that goes as another one does
-module _ (before other : Task → Task → Bool) (never_itself : (t : Task) → before t t ≡ false)
-    (other_itself : (t : Task) → other t t ≡ false) where
-  -- so it does of any two jobs
-  as_of_two : (tasks : List Task) → HaveOwnNumbers tasks
-      → EachTwo (λ t u. (t.number ≡ u.number → ⊥) → before t u ≡ other t u) tasks
-      → EachTwo (λ t u. before t u ≡ other t u) tasks
-  as_of_two tasks own alike t u mt mu = elim (cases_eq t.number u.number) [
-    | inl same ↦ let one : t ≡ u = own t u mt mu same in
-        ap (λ x. before x u) one ∙ never_itself u ∙ sym (other_itself u) ∙ ap (λ x. other x u) (sym one)
-    | inr apart ↦ alike t u mt mu apart
-  ]
-
-  same_fold : (best : Task) (tasks : List Task) → EachTwo (λ t u. before t u ≡ other t u) (best ∷ tasks)
-      → fold (earlier before) best tasks ≡ fold (earlier other) best tasks
-  same_fold best [] alike = refl
-  same_fold best (t ∷ tasks) alike =
-      by_test (before t best) refl (same_fold t tasks (λ x y mx my. alike x y (inr mx) (inr my)))
-      (same_fold best tasks (λ x y mx my. alike x y (beside t best tasks x mx) (beside t best tasks y my))) where
-        so : other t best ≡ before t best
-        so = sym (alike t best (inr (inl refl)) (inl refl))
-
-        by_test : (b : Bool) → before t best ≡ b
-            → fold (earlier before) t tasks ≡ fold (earlier other) t tasks
-            → fold (earlier before) best tasks ≡ fold (earlier other) best tasks
-            → fold (earlier before) best (t ∷ tasks) ≡ fold (earlier other) best (t ∷ tasks)
-        by_test true is from_t from_best =
-            ap (λ b. fold (earlier before) (if b then t else best) tasks) is ∙ from_t
-            ∙ ap (λ b. fold (earlier other) (if b then t else best) tasks) (sym (so ∙ is))
-        by_test false is from_t from_best =
-            ap (λ b. fold (earlier before) (if b then t else best) tasks) is ∙ from_best
-            ∙ ap (λ b. fold (earlier other) (if b then t else best) tasks) (sym (so ∙ is))
-
-  pub same_first : (tasks : List Task) → HaveOwnNumbers tasks
-      → EachTwo (λ t u. (t.number ≡ u.number → ⊥) → before t u ≡ other t u) tasks
-      → first before tasks ≡ first other tasks
-  same_first [] own alike = refl
-  same_first (t ∷ tasks) own alike = ap Some (same_fold t tasks (as_of_two (t ∷ tasks) own alike))
-
-module _ (item : ℕ → Task → ItemFacts) (before : Task → Task → Bool) (never_itself : (t : Task) → before t t ≡ false)
-    (placed : (p : ℕ) (t : Task) → (item p t).place ≡ p)
-    (law : (t u : Task) (p q : ℕ) → (t.number ≡ u.number → ⊥) → IsJob t.job → IsJob u.job
-    → is_before (item p t) (item q u) ≡ before t u)
+-- an order of jobs in which their items come
+module _ (item : ℕ → Task → ItemFacts) (before : Task → Task → Bool)
+    (one_way : (a b : Task) → before a b ≡ true → before b a ≡ false)
+    (onward : (a b c : Task) → HasWork a → HasWork b → HasWork c → before a b ≡ true → before b c ≡ true
+    → before a c ≡ true)
+    (total : (a b : Task) → a.number ≢ b.number → before a b ≡ false → before b a ≡ true)
+    (law : (t u : Task) (p q : ℕ) → IsJob t.job → IsJob u.job → is_before (item p t) (item q u) ≡ before t u)
     (slots : List (Option Task)) (table : List (Option ItemFacts)) (has : HasItems (each item) slots table) where
+  -- each job has its item at its place
+  has_item : (n : ℕ) (t : Task) → slice_get slots n ≡ Some (Some t) → get_or table n None ≡ Some (item n t)
+  has_item n t at = ap (λ l. get_or l n None) has.1 ∙ item_at (each item) 0 slots (replicate has.0 None) n (Some t) at
+      ∙ ap (λ m. Some (item m t)) (let same : 0 + n ≡ n = omega arith in same)
+
   -- where the heap has none, none waits
-  pub none_first : None ≡ first is_before (items_of table) → None ≡ first before (jobs_at slots)
+  pub none_first : IsFirst table None → None ≡ first before (jobs_at slots)
   none_first none = sym (empty (jobs_at slots) (λ t m.
       let it = place_of slots t m in
-      let there = job_item item 0 slots has.0 it.0 t it.1 in
-      reduce_none (earlier is_before) (items_of table) (sym none) (item (0 + it.0) t)
-      (subst (λ l. IsMember (item (0 + it.0) t) (items_of l)) (sym has.1) there))) where
+      none_is_some (sym (none it.0) ∙ has_item it.0 t it.1))) where
         empty : (ts : List Task) → Each (λ t. ⊥) ts → first before ts ≡ None
         empty [] not = refl
         empty (t ∷ ts) not = absurd (not t (inl refl))
 
-  -- the order by the items, as if each job were at the place of its number
-  abbrev by_item : Task → Task → Bool
-  by_item t u = is_before (item t.number t) (item u.number u)
-
-  item_itself : (t : Task) → by_item t t ≡ false
-  item_itself t = by_test (by_item t t) refl where
-    by_test : (b : Bool) → by_item t t ≡ b → by_item t t ≡ false
-    by_test true is = one_way (item t.number t) (item t.number t) is
-    by_test false is = is
-
-  -- of two jobs one comes before the other, or they are one
-  by_item_apart : (tasks : List Task) → HaveOwnNumbers tasks
-      → EachTwo (λ t u. by_item t u ≡ false → by_item u t ≡ false → t ≡ u) tasks
-  by_item_apart tasks own t u mt mu ahead back = elim (cases_eq t.number u.number) [
-    | inl same ↦ own t u mt mu same
-    | inr other ↦ never (sym back ∙ total (item t.number t) (item u.number u)
-        (λ e. other (sym (placed t.number t) ∙ e ∙ placed u.number u)) ahead)
-  ]
-
   -- the first item is that of the first job, which stands at its place
-  pub found_first : (i : ItemFacts) → Some i ≡ first is_before (items_of table) → HaveOwnNumbers (jobs_at slots)
+  pub found_first : (i : ItemFacts) → IsFirst table (Some i) → HaveOwnNumbers (jobs_at slots)
       → AreModest (jobs_at slots)
       → (t : Task) × (slice_get slots i.place ≡ Some (Some t)) × (first before (jobs_at slots) ≡ Some t)
-      × ((p : ℕ) × (i ≡ item p t))
-  found_first i at own modest =
-      let top = first_is is_before one_way onward (items_of table) i (sym at) in
-      let it = item_job item 0 slots has.0 i (subst (λ l. IsMember i (items_of l)) has.1 top.0) in
-      let t : Task = it.1 in
-      let here : slice_get slots it.0 ≡ Some (Some t) = it.2 in
-      let number : i.place ≡ it.0 = ap (λ (x : ItemFacts). x.place) it.3 ∙ placed (0 + it.0) t ∙ none_more it.0 in
-      let member : IsMember t (jobs_at slots) = job_there slots it.0 t here in
-      let by_items : first by_item (jobs_at slots) ≡ Some t = first_only by_item
-      (λ a b. one_way (item a.number a) (item b.number b))
-      (λ a b c. onward (item a.number a) (item b.number b) (item c.number c)) (jobs_at slots) t member
-      (λ u m ahead. best t it.0 it.3 member top.1 u m (cases_eq u.number t.number) ahead)
-      (by_item_apart (jobs_at slots) own) in (
-        t,
-        ap (slice_get slots) number ∙ here,
-        same_first before by_item never_itself item_itself (jobs_at slots) own
-            (λ a b ma mb apart. sym (law a b a.number b.number apart (modest a ma) (modest b mb)))
-            ∙ by_items,
-        (0 + it.0, it.3),
-      ) where
-        none_more : (n : ℕ) → 0 + n ≡ n
-        none_more n = omega arith
-
-        best : (t : Task) (n : ℕ) → i ≡ item (0 + n) t → IsMember t (jobs_at slots)
-            → Each (λ y. is_before y i ≡ true → ⊥) (items_of table) → (u : Task) → IsMember u (jobs_at slots)
-            → (u.number ≡ t.number) ⊎ ((u.number ≡ t.number) → ⊥) → by_item u t ≡ true → ⊥
-        best t n is mt none u mu (inl same) ahead =
-            let one : u ≡ t = own u t mu mt same in
-            never (sym (item_itself t) ∙ ap (λ x. by_item x t) (sym one) ∙ ahead)
-        best t n is mt none u mu (inr other) ahead =
-            let at_u = place_of slots u mu in
-            let there = subst (λ l. IsMember (item (0 + at_u.0) u) (items_of l)) (sym has.1)
-            (job_item item 0 slots has.0 at_u.0 u at_u.1) in
-            none (item (0 + at_u.0) u) there
-            (ap (is_before (item (0 + at_u.0) u)) is
-            ∙ law u t (0 + at_u.0) (0 + n) other (modest u mu) (modest t mt)
-            ∙ sym (law u t u.number t.number other (modest u mu) (modest t mt)) ∙ ahead)
+      × (i ≡ item i.place t)
+  found_first i top own modest =
+      let it = item_job item 0 slots has.0 i.place i (ap (λ l. get_or l i.place None) (sym has.1) ∙ top.0) in
+      let member : IsMember it.0 (jobs_at slots) = job_there slots i.place it.0 it.1 in (
+        it.0,
+        it.1,
+        first_only_of HasWork before one_way onward (jobs_at slots) it.0 (λ u m. (job_limits (modest u m)).work) member
+            (λ u m ahead. let at_u = place_of slots u m in
+            never (sym (top.1 at_u.0 (item at_u.0 u) (has_item at_u.0 u at_u.1))
+            ∙ ap (is_before (item at_u.0 u)) it.2
+            ∙ law u it.0 at_u.0 (0 + i.place) (modest u m) (modest it.0 member) ∙ ahead))
+            (apart_or_one before total (jobs_at slots) own),
+        it.2 ∙ ap (λ n. item n it.0) (let same : 0 + i.place ≡ i.place = omega arith in same),
+      )
 
 -- ---- the orders
 
-due_law : (v : Version) (t u : Task) (p q : ℕ) → (t.number ≡ u.number → ⊥) → IsJob t.job → IsJob u.job
-    → is_before (due_item v p (entry_of t)) (due_item v q (entry_of u)) ≡ due_first v t u
-due_law v t u p q apart low less =
-    (ordered_as v (entry_of t) (entry_of u) p q apart (job_limits low).modest (job_limits less).modest).due
+due_law : (v : Version) (t u : Task) (p q : ℕ) → IsJob t.job → IsJob u.job
+    → is_before (due_item v p (entry_of t)) (due_item v q (entry_of u)) ≡ waiting_order v false t u
+due_law v t u p q low less =
+    (ordered_as v (entry_of t) (entry_of u) p q (job_limits low).modest (job_limits less).modest).due
 
-latest_law : (v : Version) (t u : Task) (p q : ℕ) → (t.number ≡ u.number → ⊥) → IsJob t.job → IsJob u.job
+latest_law : (v : Version) (t u : Task) (p q : ℕ) → IsJob t.job → IsJob u.job
     → is_before (latest_item v p (entry_of t)) (latest_item v q (entry_of u)) ≡ starts_before v t u
-latest_law v t u p q apart low less =
-    (ordered_as v (entry_of t) (entry_of u) p q apart (job_limits low).modest (job_limits less).modest).latest
+latest_law v t u p q low less =
+    (ordered_as v (entry_of t) (entry_of u) p q (job_limits low).modest (job_limits less).modest).latest
 
-module _ (v : Version) (slots : List (Option Task)) (table : List (Option ItemFacts)) where
-  pub due_none : HasItems (item_by_deadline v) slots table → None ≡ first is_before (items_of table)
-      → None ≡ first (due_first v) (jobs_at slots)
-  due_none has = none_first (λ p t. due_item v p (entry_of t)) (due_first v) (due_itself v) (λ p a. refl)
-      (due_law v) slots table has
+module _ (v : Version) (slots : List (Option Task)) (table : List (Option ItemFacts))
+    (has : HasItems (item_by_latest v) slots table) where
+  starts : IsStrictOrder (is_start_before v)
+  starts = strict_by (λ e. e.latest) v
 
-  pub latest_none : HasItems (item_by_latest v) slots table → None ≡ first is_before (items_of table)
-      → None ≡ first (starts_before v) (jobs_at slots)
-  latest_none has = none_first (λ p t. latest_item v p (entry_of t)) (starts_before v) (latest_itself v)
-      (λ p a. refl) (latest_law v) slots table has
+  pub latest_none : IsFirst table None → None ≡ first (starts_before v) (jobs_at slots)
+  latest_none = none_first (λ p t. latest_item v p (entry_of t)) (starts_before v)
+      (λ a b. starts.one_way (entry_of a) (entry_of b))
+      (λ a b c _ _ _. starts.onward (entry_of a) (entry_of b) (entry_of c))
+      (λ a b. starts.total (entry_of a) (entry_of b)) (latest_law v) slots table has
 
-  module _ (i : ItemFacts) (at : Some i ≡ first is_before (items_of table)) (own : HaveOwnNumbers (jobs_at slots))
-      (modest : AreModest (jobs_at slots)) where
-    pub due_found : HasItems (item_by_deadline v) slots table
-        → (t : Task) × (slice_get slots i.place ≡ Some (Some t)) × (first (due_first v) (jobs_at slots) ≡ Some t)
-        × ((p : ℕ) × (i ≡ due_item v p (entry_of t)))
-    due_found has = found_first (λ p t. due_item v p (entry_of t)) (due_first v) (due_itself v) (λ p a. refl)
-        (due_law v) slots table has i at own modest
-
-    pub latest_found : HasItems (item_by_latest v) slots table
-        → (t : Task) × (slice_get slots i.place ≡ Some (Some t)) × (first (starts_before v) (jobs_at slots) ≡ Some t)
-        × ((p : ℕ) × (i ≡ latest_item v p (entry_of t)))
-    latest_found has = found_first (λ p t. latest_item v p (entry_of t)) (starts_before v) (latest_itself v)
-        (λ p a. refl) (latest_law v) slots table has i at own modest
-
--- by density
-module _ (slots : List (Option Task)) (table : List (Option ItemFacts))
-    (has : HasItems item_by_density slots table) where
-  pub dense_none : None ≡ first is_before (items_of table) → None ≡ first (waiting_order Four true) (jobs_at slots)
-  dense_none = none_first dense_item (waiting_order Four true) dense_itself (λ p a. refl) dense_law slots table has
-
-  pub dense_found : (i : ItemFacts) → Some i ≡ first is_before (items_of table) → HaveOwnNumbers (jobs_at slots)
+  pub latest_found : (i : ItemFacts) → IsFirst table (Some i) → HaveOwnNumbers (jobs_at slots)
       → AreModest (jobs_at slots)
-      → (t : Task) × (slice_get slots i.place ≡ Some (Some t))
-      × (first (waiting_order Four true) (jobs_at slots) ≡ Some t) × ((p : ℕ) × (i ≡ dense_item p t))
-  dense_found = found_first dense_item (waiting_order Four true) dense_itself (λ p a. refl) dense_law slots table has
+      → (t : Task) × (slice_get slots i.place ≡ Some (Some t)) × (first (starts_before v) (jobs_at slots) ≡ Some t)
+      × (i ≡ latest_item v i.place (entry_of t))
+  latest_found = found_first (λ p t. latest_item v p (entry_of t)) (starts_before v)
+      (λ a b. starts.one_way (entry_of a) (entry_of b))
+      (λ a b c _ _ _. starts.onward (entry_of a) (entry_of b) (entry_of c))
+      (λ a b. starts.total (entry_of a) (entry_of b)) (latest_law v) slots table has
 
--- the place that a heap names is that of the first job
+-- the place that a heap names is that of the first job, in an order of waiting jobs in which their items come
+module _ (item : ℕ → Task → ItemFacts) (v : Version) (dense : Bool)
+    (law : (t u : Task) (p q : ℕ) → IsJob t.job → IsJob u.job
+    → is_before (item p t) (item q u) ≡ waiting_order v dense t u)
+    (slots : List (Option Task)) (table : List (Option ItemFacts)) (has : HasItems (each item) slots table) where
+  pub place_first : (o : Option ItemFacts) → IsFirst table o → HaveOwnNumbers (jobs_at slots)
+      → AreModest (jobs_at slots)
+      → IsPlaceOf (waiting_order v dense) slots (option_map (λ i. i.place) o)
+  place_first None top own modest = none_first item (waiting_order v dense) (waiting_one_way v dense)
+      (waiting_onward v dense) (waiting_total v dense) law slots table has top
+  place_first (Some i) top own modest =
+      let it = found_first item (waiting_order v dense) (waiting_one_way v dense) (waiting_onward v dense)
+      (waiting_total v dense) law slots table has i top own modest in
+      (it.0, it.1, it.2)
+
 pub due_place : (v : Version) (slots : List (Option Task)) (table : List (Option ItemFacts)) (o : Option ItemFacts)
-    → o ≡ first is_before (items_of table) → HasItems (item_by_deadline v) slots table
+    → IsFirst table o → HasItems (item_by_deadline v) slots table
     → HaveOwnNumbers (jobs_at slots) → AreModest (jobs_at slots)
-    → IsPlaceOf (due_first v) slots (option_map (λ i. i.place) o)
-due_place v slots table None is has own modest = due_none v slots table has is
-due_place v slots table (Some i) is has own modest =
-    let it = due_found v slots table i is own modest has in (it.0, it.1, it.2)
+    → IsPlaceOf (waiting_order v false) slots (option_map (λ i. i.place) o)
+due_place v slots table o top has = place_first (λ p t. due_item v p (entry_of t)) v false (due_law v) slots table has
+    o top
 
 pub dense_place : (slots : List (Option Task)) (table : List (Option ItemFacts)) (o : Option ItemFacts)
-    → o ≡ first is_before (items_of table) → HasItems item_by_density slots table
+    → IsFirst table o → HasItems item_by_density slots table
     → HaveOwnNumbers (jobs_at slots) → AreModest (jobs_at slots)
     → IsPlaceOf (waiting_order Four true) slots (option_map (λ i. i.place) o)
-dense_place slots table None is has own modest = dense_none slots table has is
-dense_place slots table (Some i) is has own modest =
-    let it = dense_found slots table has i is own modest in (it.0, it.1, it.2)
+dense_place slots table o top has = place_first dense_item Four true dense_law slots table has o top
 
 -- only version Four is ever by density
 pub only_four : (v : Version) (pressed : Bool) → by_density v pressed ≡ true → v ≡ Four

@@ -1,13 +1,13 @@
 //! The jobs that wait.
 ghost use Rattle.std.specs.Prelude.{◌≡◌, ℕ, ◌+◌, ◌*◌, ◌/◌, ◌^◌, ◌<◌, ◌≤◌, [], ◌∷◌, ◌++◌, slice_set, length, List};
-ghost use Rattle.std.specs.Prelude.{Option, Some, None, max, vec_len, vec_capacity, option_map, IsOk, IsNone, IfSome};
+ghost use Rattle.std.specs.Prelude.{Option, Some, None, max, vec_len, vec_capacity, option_map, IsOk};
 ghost use Rattle.std.specs.Prelude.{OnOk, OnErr, replicate, slice_get, slice_index_or, is_some, count_by};
 ghost use Rattle.dover_model.specs.declared.events.Version.{Version};
 ghost use Rattle.dover_model.specs.declared.events.Task.{Task};
-ghost use Rattle.dover_model.specs.Common.{entry_of, latest_start, due_first, starts_before, first, Each};
+ghost use Rattle.dover_model.specs.Common.{entry_of, latest_start, starts_before, first};
 ghost use Rattle.dover_model.specs.Common.{by_density, waiting_order};
-ghost use Rattle.place_heap.specs.Items.{ItemFacts, is_before};
-ghost use Rattle.place_heap.specs.Table.{items_of};
+ghost use Rattle.place_heap.specs.Items.{ItemFacts};
+ghost use Rattle.place_heap.specs.Table.{IsFirst};
 ghost use Rattle.place_heap.specs.Orders.{due_item, latest_item, dense_item};
 ghost use Rattle.waiting_pool.specs.Reordered.{IsReordered};
 ghost use Rattle.waiting_pool.specs.Pools.{HaveOwnNumbers, AreModest, Pooled, IsPool, HasRoom, jobs_at, most_places};
@@ -98,7 +98,7 @@ fn density_of(value: u64, work: u64) -> u128
         + (u128::from(middle / work) * (1 << 23) + u128::from(low / work))
 }
 
-// The item of the job by its density. Its place, number and deadline are compared where densities are equal.
+// The item of the job by its density. Its deadline, value and number are compared where densities are equal.
 #[inline(always)]
 fn dense_item(place: u32, t: &Task) -> Item<LongRank>
     ensures { result ≡ dense_item place t.now }
@@ -149,7 +149,7 @@ fn remove_dense<L: Ledger>(
 // The place of the first of the items.
 #[inline(always)]
 fn first_place<R: Rank>(heap: &Heap<R>) -> Option<u32>
-    ensures { result ≡ option_map (λ i. i.place) (first is_before (items_of heap.now)) }
+    ensures { (first : Option ItemFacts) × IsFirst heap.now first × (result ≡ option_map (λ i. i.place) first) }
 {
     let item = heap.first()?;
     Some(item.place())

@@ -6,20 +6,31 @@ use Rattle.std.specs.Prelude.{nat_lt, IfSome, IsSome, IsNone}
 use Rattle.std.specs.List.{filter, AllByRecursion}
 use Rattle.std.proofs.lemmas.Bool.{cases_lt, cases_eq, lt-ltb, le-ltb}
 use Rattle.std.proofs.lemmas.List.{append-nil, map-append, take_all, take_more, take-append-drop, get_or-set_same}
-use Rattle.std.proofs.lemmas.List.{get_or-set_other, length-set, set-set}
+use Rattle.std.proofs.lemmas.List.{get_or-set_other, get_or_past, length-set, set-set}
 use Rattle.std.proofs.lemmas.List.Elements.{filter-append}
 use Rattle.dover_model.specs.declared.events.Version.TheVariants.{Two}
-use Rattle.dover_model.specs.Common.{JobFacts, IsJob, last_tick_in, first}
+use Rattle.dover_model.specs.Common.{JobFacts, IsJob, last_tick_in}
+use Rattle.dover_model.proofs.lists.Tests.{none_is_some}
 use Rattle.place_heap.specs.Items.{ItemFacts, is_before}
-use Rattle.place_heap.specs.Table.{items_of}
+use Rattle.place_heap.specs.Table.{IsFirst}
 use Rattle.task_words.specs.tasks.Limits.{IsTask}
 use Rattle.task_words.specs.tasks.Tasks.{releases, job_at, released_at, jobs_before}
-use Rattle.task_words.specs.tasks.Merging.{Merge, merge, blank_task, IsNextRelease, IsNext, from_tick}
+use Rattle.task_words.specs.tasks.Merging.{Merge, merge, blank_task, release_item, IsNextRelease, IsNext, from_tick}
 use Rattle.task_words.specs.tasks.Merging.{kept_release, StandsBehind}
 use Rattle.task_words.specs.declared.tasks.task.PeriodicTask.{PeriodicTask}
-use Rattle.task_words.proofs.tasks.Firsts.{IsFirst, first_is, none_first, lead_by}
 use Rattle.task_words.proofs.tasks.Released.{job_within}
 use Rattle.task_words.proofs.tasks.Releases.{first_kept, follows_short}
+
+-- ---- two releases, of which the second doesn't come before the first
+
+lead_of : (d n d2 n2 : ℕ) → is_before (release_item n2 d2) (release_item n d) ≡ false
+    → (d < d2) ⊎ ((d ≡ d2) × (n ≤ n2))
+lead_of d n d2 n2 leads = grind arith
+
+lead_by : (e f : ItemFacts) (n m : ℕ) → e ≡ release_item n e.key → f ≡ release_item m f.key → is_before f e ≡ false
+    → (e.key < f.key) ⊎ ((e.key ≡ f.key) × (n ≤ m))
+lead_by e f n m e_is f_is leads = lead_of e.key n f.key m
+    (sym (ap (is_before (release_item m f.key)) e_is) ∙ sym (ap (λ i. is_before i e) f_is) ∙ leads)
 
 -- ---- the tick from which a next release counts
 
@@ -175,7 +186,7 @@ module _ (m : Merge) (done : List JobFacts) (s : StandsBehind m done) where
         early n x (inl before) = before
         early n x (inr never) = absurd (omega (arith, never.1))
 
-  module _ (e : ItemFacts) (it : IsFirst e m.next) where
+  module _ (e : ItemFacts) (it : IsFirst m.next (Some e)) where
     -- its task
     abbrev pub task : PeriodicTask
     task = task_at tasks e.place
@@ -190,19 +201,14 @@ module _ (m : Merge) (done : List JobFacts) (s : StandsBehind m done) where
           same : (g f : ItemFacts) → Some g ≡ Some f → g ≡ f
           same g f h = let k : Some g ≡ Some f = h in cc
 
-    at_place : IsNextRelease m.until it.place.at (task_at tasks it.place.at) (from_tick s.tick s.place it.place.at) e
-    at_place = next_is _ _ _ it.place.is (s.next it.place.at (omega (arith, it.place.within, s.size)))
-
-    -- it is kept at its own number
-    own_place : e.place ≡ it.place.at
-    own_place = ap (λ (i : ItemFacts). i.place) at_place.item_is
-
     pub within : e.place < length tasks
-    within = omega (arith, own_place, it.place.within, s.size)
+    within = elim (cases_lt e.place (length m.next)) [
+      | inl less ↦ omega (arith, less, s.size)
+      | inr past ↦ none_is_some (sym (get_or_past m.next e.place None past) ∙ it.0)
+    ]
 
     here : IsNextRelease m.until e.place task (from_tick s.tick s.place e.place) e
-    here = subst (λ n. IsNextRelease m.until n (task_at tasks n) (from_tick s.tick s.place n) e)
-        (sym own_place) at_place
+    here = next_is _ _ _ it.0 (s.next e.place within)
 
     pub late : e.key < m.until
     late = here.late
@@ -231,7 +237,7 @@ module _ (m : Merge) (done : List JobFacts) (s : StandsBehind m done) where
           → releases (task_at tasks n) x ≡ false
       of None is next = next x low (up_to which)
       of (Some f) is next = next.quiet x low (before f which
-          (lead_by e f e.place n here.item_is next.item_is (it.leads n f is)))
+          (lead_by e f e.place n here.item_is next.item_is (it.1 n f is)))
 
     -- it doesn't lie before the place
     onward : (s.tick < e.key) ⊎ ((s.tick ≡ e.key) × (s.place ≤ e.place))
@@ -292,7 +298,7 @@ module _ (m : Merge) (done : List JobFacts) (s : StandsBehind m done) where
       of None is next = λ x low before. next x (omega (arith, later n, low)) before
       of (Some f) is next = record {
         item_is = next.item_is;
-        early = high f (lead_by e f e.place n here.item_is next.item_is (it.leads n f is)) (cases_lt n (e.place + 1));
+        early = high f (lead_by e f e.place n here.item_is next.item_is (it.1 n f is)) (cases_lt n (e.place + 1));
         late = next.late;
         released = next.released;
         quiet = λ x low before. next.quiet x (omega (arith, later n, low)) before;
@@ -396,14 +402,10 @@ given P (Some i) j is holds = subst P (sym is) holds
 
 module _ (m : Merge) (done : List JobFacts) (s : StandsBehind m done) where
   -- where it gives none, all jobs came
-  pub none_given : None ≡ first is_before (items_of m.next) → jobs_before m.until m.tasks ≡ done
-  none_given is = all_done m done s (none_first m.next (sym is))
+  pub none_given : IsFirst m.next None → jobs_before m.until m.tasks ≡ done
+  none_given none = all_done m done s none
 
-  module _ (each : AllByRecursion (IsTask m.until) m.tasks) (e : ItemFacts)
-      (is : Some e ≡ first is_before (items_of m.next)) where
-    pub it : IsFirst e m.next
-    it = first_is m.next e (sym is)
-
+  module _ (each : AllByRecursion (IsTask m.until) m.tasks) (e : ItemFacts) (it : IsFirst m.next (Some e)) where
     -- its task is there
     pub given_within : e.place < length m.tasks
     given_within = within m done s e it
@@ -440,13 +442,13 @@ module _ (m : Merge) (done : List JobFacts) (s : StandsBehind m done) where
 -- ---- what a call gives, by its parts
 
 module _ (tasks : List PeriodicTask) (until : ℕ) (old : List (Option ItemFacts))
-    (each : AllByRecursion (IsTask until) tasks) (e : ItemFacts) (is : Some e ≡ first is_before (items_of old)) where
+    (each : AllByRecursion (IsTask until) tasks) (e : ItemFacts) (it : IsFirst old (Some e)) where
   -- the heap has the place
   pub room_given : (done : List JobFacts) → StandsBehind (merge tasks until old) done → (n : List (Option ItemFacts))
       → n ≡ set old e.place None → e.place < length n
   room_given done s n taken = omega (
     arith,
-    given_within (merge tasks until old) done s each e is,
+    given_within (merge tasks until old) done s each e it,
     s.size,
     ap (λ (t : List (Option ItemFacts)). length t) taken,
     length-set old e.place None,
@@ -460,7 +462,7 @@ module _ (tasks : List PeriodicTask) (until : ℕ) (old : List (Option ItemFacts
       → StandsBehind (merge tasks until old) done
       → IfSome r (λ job. StandsBehind (merge tasks until w) (done ++ job ∷ []))
   next_given n w release fits short taken put r job_is done s =
-      given_next (merge tasks until old) done s each e is (get_or tasks e.place blank_task) refl
+      given_next (merge tasks until old) done s each e it (get_or tasks e.place blank_task) refl
       (merge tasks until w) release fits short refl refl
       (put ∙ ap (λ t. set t e.place (kept_release until e.place release)) taken ∙ set-set old e.place None
       (kept_release until e.place release)) r job_is
@@ -469,7 +471,7 @@ module _ (tasks : List PeriodicTask) (until : ℕ) (old : List (Option ItemFacts
   pub some_given : (r : Option JobFacts) → (IsSome r ↔ IsJob (job_at (get_or tasks e.place blank_task) e.key))
       → (done : List JobFacts) → StandsBehind (merge tasks until old) done → IsNone r → ⊥
   some_given r allowed done s none =
-      given_some (merge tasks until old) done s each e is (get_or tasks e.place blank_task) refl r allowed none
+      given_some (merge tasks until old) done s each e it (get_or tasks e.place blank_task) refl r allowed none
 
   -- the same where the place and the key were read
   module _ (p k : ℕ) (p_is : p ≡ e.place) (k_is : k ≡ e.key) where

@@ -2,6 +2,7 @@ use Rattle.std.proofs.Common.{◌∷◌, ◌+◌, ◌*◌, ◌≤◌, ◌<◌, �
 use Rattle.dover_model.specs.Orders.{starts_before, first}
 use Rattle.dover_model.proofs.lists.Tests.{none_is_some}
 use Rattle.waiting_pool.specs.Reordered.{IsReordered}
+use Rattle.place_heap.specs.Table.{IsFirst}
 use Rattle.waiting_pool.specs.Pools.{HaveOwnNumbers, AreModest, Pooled, jobs_at, orders_of}
 use Rattle.waiting_pool.proofs.Pooling.{latest_none, latest_found}
 use Rattle.waiting_pool.proofs.pool.Pool.take_latest.Goals as goal
@@ -11,7 +12,8 @@ take_at-requires-clause-some g c =
     let inside = c.self.inside in
     let own = subst (λ (q : Pooled). HaveOwnNumbers q.tasks) (sym c.self.view_is) c.requires.own in
     let modest = subst (λ (q : Pooled). AreModest q.tasks) (sym c.self.view_is) c.requires.modest in
-    let it = latest_found _ _ _ _ (sym c.in-Some.is ∙ c.first.ensures) own modest c.self.invariant.0.latest in
+    let top = subst (IsFirst inside.by_latest) c.in-Some.is c.first.ensures in
+    let it = latest_found _ _ _ c.self.invariant.0.latest _ top own modest in
     (it.0, ap (slice_get inside.slots.items) c.place.ensures ∙ it.1)
 
 pub take_at-requires-clause-pool : goal.take_at-requires-clause-pool
@@ -42,7 +44,8 @@ returns-in-Some-clause-rest g c t is =
     let inside = c.self.inside in
     let own = subst (λ (q : Pooled). HaveOwnNumbers q.tasks) (sym c.self.view_is) c.requires.own in
     let modest = subst (λ (q : Pooled). AreModest q.tasks) (sym c.self.view_is) c.requires.modest in
-    let it = latest_found _ _ _ _ (sym c.in-Some.is ∙ c.first.ensures) own modest c.self.invariant.0.latest in
+    let top = subst (IsFirst inside.by_latest) c.in-Some.is c.first.ensures in
+    let it = latest_found _ _ _ c.self.invariant.0.latest _ top own modest in
     let same = sym it.2 ∙ ap (λ (q : Pooled). first (starts_before q.version) q.tasks) c.self.view_is ∙ is in
     subst (λ (q : Pooled). IsReordered q.tasks (t ∷ jobs_at c.take_at.new.slots.items)) c.self.view_is
     (c.take_at.ensures.rest t (ap (slice_get inside.slots.items) c.place.ensures ∙ it.1 ∙ ap Some same))
@@ -52,7 +55,8 @@ returns-in-Some-clause-none g c none =
     let inside = c.self.inside in
     let own = subst (λ (q : Pooled). HaveOwnNumbers q.tasks) (sym c.self.view_is) c.requires.own in
     let modest = subst (λ (q : Pooled). AreModest q.tasks) (sym c.self.view_is) c.requires.modest in
-    let it = latest_found _ _ _ _ (sym c.in-Some.is ∙ c.first.ensures) own modest c.self.invariant.0.latest in
+    let top = subst (IsFirst inside.by_latest) c.in-Some.is c.first.ensures in
+    let it = latest_found _ _ _ c.self.invariant.0.latest _ top own modest in
     none_is_some (sym (sym it.2 ∙ ap (λ (q : Pooled). first (starts_before q.version) q.tasks) c.self.view_is ∙ none))
 
 pub returns-in-Some-clause-count : goal.returns-in-Some-clause-count
@@ -64,5 +68,6 @@ returns-in-Some-clause-count g c d fits =
 pub returns-in_default-clause-rest : goal.returns-in_default-clause-rest
 returns-in_default-clause-rest g c t is =
     let inside = c.self.inside in
-    none_is_some (latest_none _ _ _ c.self.invariant.0.latest (sym c.in_default.is ∙ c.first.ensures)
+    let none = subst (IsFirst inside.by_latest) c.in_default.is c.first.ensures in
+    none_is_some (latest_none _ _ _ c.self.invariant.0.latest none
     ∙ ap (λ (q : Pooled). first (starts_before q.version) q.tasks) c.self.view_is ∙ is)
