@@ -265,6 +265,7 @@ impl Intake {
 
     /// Accepts the job of the last line, which was answered as `Fed::Job`. It isn't accepted where too many jobs are
     /// ready at its release. No line came since.
+    #[inline(always)]
     pub fn accept(&mut self, job: Job)
         requires { HasRoom self.old job }
         ensures { Accepts job self.old self.new }
@@ -279,6 +280,13 @@ impl Intake {
     #[inline(always)]
     pub fn spelled(&self) -> &Spelled {
         &self.spelled
+    }
+
+    /// How many lines were taken, up to the first that is at fault.
+    pub fn lines(&self) -> u64
+        ensures { result ≡ self.now.lines }
+    {
+        self.lines
     }
 
     /// The mark, 0 before the ratio is declared.

@@ -55,13 +55,9 @@ impl Feed {
             IsQuiet lane (lines_of x) → FeedRests result x }
         ensures lane { result.lane ≡ lane }
     {
-        let count = match lane.end() {
-            Ok(()) => 0,
-            Err(fault) => fault.line.saturating_sub(1),
-        };
         Feed {
             alloc,
-            lines: Lines::behind(count),
+            lines: Lines::behind(lane.lines()),
             lane,
         }
     }

@@ -414,6 +414,13 @@ impl Lane {
         self.intake.end()
     }
 
+    /// How many lines the feed has, up to the first that is at fault.
+    pub fn lines(&self) -> u64
+        ensures { (ls rest : List (List ℕ)) → Stands self.now ls rest → result ≡ (account_of_lines ls).lines }
+    {
+        self.intake.lines()
+    }
+
     /// How many jobs were admitted, where all that is due was given. None where the ratio wasn't declared.
     pub fn jobs(&self) -> Option<u32>
         ensures { (ls : List (List ℕ)) → IsQuiet self.now ls

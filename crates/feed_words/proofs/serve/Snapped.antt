@@ -1,7 +1,8 @@
 -- A feed that goes on from its snapshot, one that is paused, and the lines of a snapshot, put one behind another.
-use Rattle.std.proofs.Common.{◌≡◌, ℕ, [], append-nil, sym, ap, ◌∙◌, subst, Some, true, ◌<◌, ◌+◌, ◌-◌, List, ◌∷◌, ◌++◌}
-use Rattle.std.proofs.Common.{length, take, drop, get_or, Option, arith, inl, inr, Err, take-append-drop}
-use Rattle.dover_model.specs.Common.{instance_of, Session, lines_of, in_lines, account, due_lines, settled}
+use Rattle.std.proofs.Common.{◌≡◌, ℕ, [], append-nil, sym, ap, ◌∙◌, subst, Some, true, ◌<◌, ◌+◌, List, ◌∷◌, ◌++◌}
+use Rattle.std.proofs.Common.{length, take, drop, get_or, Option, take-append-drop}
+use Rattle.dover_model.specs.Common.{instance_of, Session, lines_of, in_lines, account, account_of_lines, due_lines}
+use Rattle.dover_model.specs.Common.{settled}
 use Rattle.ready_server.specs.Serving.{Serves, HasPaid as HasSpentBy}
 use Rattle.ready_server.specs.Roster as roster
 use Rattle.ready_server.specs.declared.server.ReadyServer.{ReadyServer}
@@ -25,9 +26,6 @@ use Rattle.dover_model.proofs.lists.Beginnings.{in_lines-append}
 use Rattle.dover_port.specs.Moves.{Move, Passes, CutsShort}
 use Rattle.dover_port.proofs.Through.{passes_then, passes_then_cut, cut_longer}
 use Rattle.dover_model.specs.declared.horizon.Horizon.TheVariants.{Mark}
-use Rattle.event_feed.specs.Answers.{EndAnswers}
-use Rattle.event_feed.specs.declared.faults.FeedFault.{FeedFault}
-use Rattle.event_feed.proofs.Counting.{lines_counted}
 use Rattle.snapshot.specs.Pausing.{IsTakenTo}
 
 -- ---- it goes on
@@ -56,15 +54,15 @@ listed_on c now may s k i mark it l is f there rests spent = record {
 
 -- ---- it is paused
 
--- the server has taken the feed to its mark, and its lines are those before the fault that says that it is short
+-- the server has taken the feed to its mark
 pub taken_to : (feed : Feed) (k : roster.Kept) (x : List ℕ) → FeedRests feed x → MayPause x
     → roster.IsRollOf (steps_in (due_lines (account x))) k
-    → (lane : Lane) → lane ≡ feed.lane → (s : ReadyServer) → lane.server ≡ Some s → (fault : FeedFault)
-    → ((ls rest : List (List ℕ)) → LaneStands lane ls rest → EndAnswers {X = Unit {0}} ls (Err fault))
-    → (mark : ℕ) → mark ≡ lane.mark → IsTakenTo s k (fault.line - 1) mark x
-taken_to feed k x rests may listed lane is s there fault answers mark marked = record {
+    → (lane : Lane) → lane ≡ feed.lane → (s : ReadyServer) → lane.server ≡ Some s → (lines : ℕ)
+    → ((ls rest : List (List ℕ)) → LaneStands lane ls rest → lines ≡ (account_of_lines ls).lines)
+    → (mark : ℕ) → mark ≡ lane.mark → IsTakenTo s k lines mark x
+taken_to feed k x rests may listed lane is s there lines counted mark marked = record {
   may = may;
-  lines_are = by (answers (lines_of x) [] quiet.stands);
+  lines_are = counted (lines_of x) [] quiet.stands;
   mark_is = marked ∙ quiet.stands.marked;
   session = at.0;
   named = at.1;
@@ -81,10 +79,6 @@ taken_to feed k x rests may listed lane is s there fault answers mark marked = r
   at : (S : Session) × ((account x).session ≡ Some S) × AtMark (lines_of x) (opened x may) s S
       (account x).mark
   at = quiet_serves (lines_of x) (opened x may) lane quiet s there
-
-  by : EndAnswers {X = Unit {0}} (lines_of x) (Err fault) → fault.line - 1 ≡ (account x).lines
-  by (inl it) = omega (arith, ap (λ (f : FeedFault). f.line) it.1, lines_counted (lines_of x) (opened x may))
-  by (inr was) = absurd (let e = sym (opened x may) ∙ was in cc)
 
 -- ---- its lines are put
 

@@ -75,12 +75,10 @@ pub(crate) fn pause<L: Ledger>(pausing: Pausing<L>) -> Paused
     Lane::laws();
     let roster = pausing.roster;
     let lane = pausing.serving.feed.into_lane();
-    let Err(fault) = lane.end() else {
-        unreachable!();
-    };
+    let lines = lane.lines();
     let mark = lane.mark();
     let Some(server) = lane.into_server() else {
         unreachable!();
     };
-    Paused::new(&server, roster, fault.line - 1, mark)
+    Paused::new(&server, roster, lines, mark)
 }

@@ -8,7 +8,7 @@ new-requires g c = (
   c.requires.0,
   taken_to c.args.pausing.serving.feed c.args.pausing.roster c.requires.0 c.requires.1 c.requires.2 c.requires.3
       c.into_lane-lane.result c.into_lane-lane.ensures
-      c.in-Some.server (sym c.into_server.ensures ∙ c.in-Some.is) c.in-Err.fault c.in-Err.ensures.answer
+      c.in-Some.server (sym c.into_server.ensures ∙ c.in-Some.is) c.lines-lines.result c.lines-lines.ensures
       c.mark-mark.result c.mark-mark.ensures,
 )
 
@@ -16,7 +16,7 @@ pub returns-clause-text : goal.returns-clause-text
 returns-clause-text g c = λ x rests may listed. c.new.ensures x
     (taken_to c.args.pausing.serving.feed c.args.pausing.roster x rests may listed c.into_lane-lane.result
     c.into_lane-lane.ensures c.in-Some.server
-    (sym c.into_server.ensures ∙ c.in-Some.is) c.in-Err.fault c.in-Err.ensures.answer
+    (sym c.into_server.ensures ∙ c.in-Some.is) c.lines-lines.result c.lines-lines.ensures
     c.mark-mark.result c.mark-mark.ensures)
 
 pub returns-clause-paid : goal.returns-clause-paid
