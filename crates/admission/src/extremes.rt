@@ -48,7 +48,6 @@ pub struct Extremes {
 impl Extremes {
     ghost use Rattle.std.specs.Prelude.{◌≡◌, ◌↔◌, List, ◌++◌, ◌∷◌, [], length, IfSome, IsNone, IsTrue};
     ghost use Rattle.dover_model.specs.JobFacts.{JobFacts, IsJob};
-    ghost use Rattle.dover_model.specs.Admission.{is_within_ratio_both_ways};
     ghost use Rattle.admission.specs.Kept.{AreExtremes, IsBetween};
     ghost use Rattle.admission.specs.Answers.{IsOther, AllKeepRatio};
 

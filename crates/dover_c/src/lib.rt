@@ -6,7 +6,7 @@
 pub mod laws;
 mod slot;
 
-ghost use Rattle.std.specs.Prelude.{◌≡◌, ℕ};
+ghost use Rattle.std.specs.Prelude.{◌≡◌};
 ghost use prog.Memory.{size, capped};
 ghost use denote.Param.{layout};
 ghost use types.Logic.{sem};

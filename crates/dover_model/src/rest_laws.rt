@@ -1,6 +1,6 @@
 //! Laws of runs that come to rest, and of jobs in parts, each the contract of a function that does nothing.
 ghost use Rattle.std.specs.Prelude.{◌≡◌, ◌≤◌, ◌+◌, ◌++◌, ◌↔◌, ℕ, List, [], ◌∷◌, map, length, false};
-ghost use Rattle.dover_model.specs.Common.{Finish, JobFacts, End, Rules, Instance, IsValid, with_jobs, total_value};
+ghost use Rattle.dover_model.specs.Common.{Finish, JobFacts, End, Rules, Instance, IsValid, total_value};
 ghost use Rattle.dover_model.specs.Common.{run, printed, completed_value, observed, settled, Prints, Meets, worth};
 ghost use Rattle.dover_model.specs.Common.{IsWithin, takes_or_abandons, Each, AreOwn, instead_with, followed_by};
 ghost use Rattle.dover_model.specs.Common.{NoneBefore, IsAtRest, end_tick, behind, before_end, Turn, turn_under};

@@ -1,10 +1,10 @@
 //! Laws of how often the processor changes hands, and of what that costs, each the contract of a function that does
 //! nothing.
 ghost use Rattle.std.specs.Prelude.{None, ◌≡◌, ◌≤◌, ◌+◌, ◌-◌, ◌*◌, ℕ, List, length, true, false, count_by};
-ghost use Rattle.dover_model.specs.Common.{Instance, IsValid, JobFacts, numbered, ticks_given, worth, Step, run, ran};
+ghost use Rattle.dover_model.specs.Common.{Instance, IsValid, JobFacts, numbered, ticks_given, worth, run, ran};
 ghost use Rattle.dover_model.specs.Common.{completed_value, IsWithin, need, gains_from, Fraction, IsWithinSlower};
 ghost use Rattle.dover_model.specs.Common.{worth_by, end_state, observed, is_done, Task, IsMember, is_complete};
-ghost use Rattle.dover_model.specs.Common.{is_take_of, gets, changes_hands, is_complete_of, starts, returns};
+ghost use Rattle.dover_model.specs.Common.{gets, changes_hands, is_complete_of, starts, returns};
 ghost use Rattle.dover_model.specs.Common.{may_preempt, may_take, most_changes, useful, AreOfTask};
 ghost use Rattle.dover_model.specs.Forward.{AreLoaded};
 ghost use Rattle.dover_model.specs.Slower.{AskAtMost};

@@ -1,7 +1,7 @@
 //! What the numbers of a line declare: a ratio and a version, and perhaps a factor; and the line that declares them.
 ghost use Rattle.dover_model.specs.Common.{HasNumerals, IsRatio, fraction, with_factor, declared_rules};
 ghost use Rattle.dover_model.specs.Common.{declared_version, factor_rules, rules_with};
-ghost use Rattle.std.specs.Prelude.{◌≡◌, ℕ, Option, option_map};
+ghost use Rattle.std.specs.Prelude.{◌≡◌, Option, option_map};
 ghost use Rattle.event_feed.specs.Reading.{declared_number, rules_line};
 ghost use Rattle.line_text.specs.feeds.Form.{form_of};
 

@@ -1,7 +1,5 @@
 //! The rows of the usage for a word.
-ghost use Rattle.std.specs.Prelude.{◌≡◌, ◌++◌, ◌∷◌, [], IfOk, codes, map, string_bytes};
-ghost use Rattle.std.specs.Str.Lines.{lines};
-ghost use Rattle.dover_model.specs.Lines.{in_lines};
+ghost use Rattle.std.specs.Prelude.{◌≡◌, ◌++◌, IfOk, codes, map, string_bytes};
 ghost use Rattle.help_words.specs.Help.{rows_of, short_usage};
 
 use crate::usage::USAGE;

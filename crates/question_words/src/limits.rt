@@ -1,7 +1,7 @@
 //! Whether the jobs of a feed are no more than a word takes that keeps all of them.
-ghost use Rattle.std.specs.Prelude.{◌≡◌, ◌≤◌, ◌↔◌, IsTrue, length};
+ghost use Rattle.std.specs.Prelude.{◌↔◌, IsTrue};
 ghost use Rattle.dover_model.specs.declared.events.Version.TheVariants.{Two};
-ghost use Rattle.dover_model.specs.Common.{IsListable, total_value, most_jobs};
+ghost use Rattle.dover_model.specs.Common.{IsListable, total_value};
 ghost use Rattle.event_feed.specs.Listing.{listed_instance};
 
 use dover_model::Version;

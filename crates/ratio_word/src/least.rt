@@ -1,5 +1,5 @@
 //! The least ratio that is at least a fraction.
-ghost use Rattle.std.specs.Prelude.{◌≡◌, ◌≤◌, ◌<◌, ◌*◌, ◌+◌, ◌^◌, ℕ, IfSome, IsNone};
+ghost use Rattle.std.specs.Prelude.{◌≡◌, ◌≤◌, ◌<◌, ◌*◌, ◌+◌, ◌^◌, ℕ};
 ghost use Rattle.dover_model.specs.Common.{most_p, most_q};
 ghost use Rattle.ratio_word.specs.Least.{StandsBelow, Suffices};
 

@@ -5,7 +5,7 @@ ghost use Rattle.dover_model.specs.Common.{CostsAtMost};
 ghost use Rattle.dover_model.specs.declared.horizon.Horizon.{Horizon};
 ghost use Rattle.dover_model.specs.declared.horizon.Horizon.TheVariants.{Mark};
 ghost use Rattle.ready_server.specs.Running.{HasShown, CanFeed, HasFed, finished_at};
-ghost use Rattle.ready_server.specs.Serving.{Serves, Rests, HasPlace, HasPaid};
+ghost use Rattle.ready_server.specs.Serving.{Rests, HasPlace, HasPaid};
 
 use crate::server::ReadyServer;
 use crate::source::JobSource;

@@ -1,7 +1,7 @@
 //! Values against a threshold: the root of the importance ratio, or a factor.
 ghost use Rattle.std.specs.Prelude.{◌≡◌, ◌≤◌, ◌<◌, ◌*◌, ◌^◌, None, Some, ℕ};
 ghost use Rattle.dover_model.specs.Common.{is_heavy, IsHeavy, is_within, bound, is_within_root, is_within_by, bound_by};
-ghost use Rattle.dover_model.specs.Common.{IsRatio, IsGreatest, most_total, most_value};
+ghost use Rattle.dover_model.specs.Common.{IsGreatest, most_total, most_value};
 ghost use Rattle.dover_model.specs.Orders.{is_over};
 ghost use Rattle.dover_model.specs.declared.events.Version.TheVariants.{Two};
 ghost use Rattle.root_compare.specs.Least.{least_heavy};

@@ -1,5 +1,5 @@
 //! Marks in the lanes, step by step.
-ghost use Rattle.std.specs.Prelude.{◌≡◌, ◌≤◌, ◌++◌, ◌^◌, OnOk, codes, if◌then◌else◌};
+ghost use Rattle.std.specs.Prelude.{◌≡◌, ◌≤◌, ◌++◌, OnOk, codes, if◌then◌else◌};
 ghost use Rattle.run_picture.specs.Frame.{bars_end};
 ghost use Rattle.run_picture.specs.Marks as marks;
 ghost use Rattle.run_picture.specs.Pictures as pictures;

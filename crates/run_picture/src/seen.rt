@@ -1,5 +1,5 @@
 //! What the steps of a run tell of each job.
-ghost use Rattle.std.specs.Prelude.{◌≡◌, ◌≤◌, ◌++◌, ℕ, length, OnOk, IfOk, [], zip, replicate, true};
+ghost use Rattle.std.specs.Prelude.{◌≡◌, ℕ, length, OnOk, IfOk, [], zip, replicate, true};
 ghost use Rattle.run_picture.specs.Seen as tell;
 
 use dover_model::{Event, Job, Memory, PackedEvent};

@@ -87,7 +87,6 @@ fn standing_after(event: &Event) -> Standing
 
 impl Intake {
     ghost use Rattle.std.specs.Prelude.{◌≡◌, ◌<◌, true, OnOk};
-    ghost use Rattle.dover_model.specs.Common.{most_lines};
     ghost use Rattle.dover_model.specs.declared.events.Version.TheVariants.{Two};
     ghost use Rattle.schedule_judge.specs.Account as account;
 

@@ -1,6 +1,6 @@
 //! Streams that fail once. No clause of a reader or a writer tells how often it was called, so that a call that failed
 //! isn't made again is tried.
-ghost use Rattle.std.specs.Prelude.{◌≡◌, ◌≤◌, IfOk};
+ghost use Rattle.std.specs.Prelude.{◌≡◌, IfOk};
 
 use dover_port::{Port, StreamPort, put_all};
 use std::io;

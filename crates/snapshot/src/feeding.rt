@@ -1,9 +1,9 @@
 //! The lines of a feed, handed in again.
-ghost use Rattle.std.specs.Prelude.{◌≡◌, ℕ, List, [], ◌∷◌, ◌++◌, true, false, IfSome, IsNone, is_some};
+ghost use Rattle.std.specs.Prelude.{◌≡◌, ℕ, List, [], ◌∷◌, ◌++◌, false, IfSome, IsNone, is_some};
 ghost use Rattle.dover_model.specs.declared.events.Task.{Task};
 ghost use Rattle.dover_model.specs.Common.{IsValid, job_numbers, AreShort, HasNumerals, feed_text, IsDeclarable};
 ghost use Rattle.line_text.specs.feeds.Form.{form_of};
-ghost use Rattle.event_feed.specs.Kept.{StandsFor, IsGoing, has_ended};
+ghost use Rattle.event_feed.specs.Kept.{StandsFor, has_ended};
 ghost use Rattle.snapshot.specs.Snapshot as model;
 ghost use Rattle.snapshot.specs.Reading.{declared_jobs};
 ghost use Rattle.snapshot.specs.Forms.{head_in, task_in};

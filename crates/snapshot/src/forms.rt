@@ -1,5 +1,5 @@
 //! The lines of a snapshot, as they are read.
-ghost use Rattle.std.specs.Prelude.{◌≡◌, ◌∷◌, ◌++◌, ◌<◌, ◌^◌, ℕ, List, Some, IfSome, IfNone, option_map};
+ghost use Rattle.std.specs.Prelude.{◌≡◌, ◌∷◌, ◌++◌, ◌<◌, ℕ, List, Some, IfSome, IfNone, option_map};
 ghost use Rattle.std.specs.Option.{option_and_then};
 ghost use Rattle.dover_model.specs.declared.events.Role.{Role};
 ghost use Rattle.dover_model.specs.Common.{rules_with, fields_of, numerals};

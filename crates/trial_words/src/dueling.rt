@@ -1,14 +1,13 @@
 //! The word `duel`.
-ghost use Rattle.std.specs.Prelude.{◌≡◌, ◌≤◌, ◌++◌, ◌∷◌, [], length, take, map};
+ghost use Rattle.std.specs.Prelude.{◌≡◌, ◌≤◌, [], length, take, map};
 ghost use Rattle.std.specs.List.{AllByRecursion};
 ghost use Rattle.dialogue.specs.Talk.{CanEnd};
 ghost use Rattle.dover_model.specs.declared.events.Version.TheVariants.{One};
 ghost use Rattle.dover_model.specs.Common.{jobs_under, IsJob, in_lines};
 ghost use Rattle.dover_port.specs.Causes.{Causes, HasCause, StopsAtFailure, StopsWith};
 ghost use Rattle.dover_port.specs.Moves.{PutsThrough, Since};
-ghost use Rattle.stated_jobs.specs.duel.Answers.{Answers, jobs_for};
 ghost use Rattle.stated_jobs.specs.duel.Kept.{IsShare};
-ghost use Rattle.trial_words.specs.Dueled.{Duels, duel_front, no_duel_text};
+ghost use Rattle.trial_words.specs.Dueled.{Duels, no_duel_text};
 ghost use Rattle.event_feed.specs.Feeds.{feed_of, job_text};
 
 use dialogue::lines::{put_feed_line, put_job, put_rules};

@@ -1,7 +1,7 @@
 //! The best set of a few jobs.
 ghost use Rattle.std.specs.Prelude.{◌≡◌, ◌≤◌, ◌↔◌, ◌<◌, ℕ, List, length, map, IfOk};
 ghost use Rattle.dover_model.specs.declared.events.Version.TheVariants.{Two};
-ghost use Rattle.dover_model.specs.Common.{Rules, IsInOrder, total_value, IsJob, Each, worth, spread};
+ghost use Rattle.dover_model.specs.Common.{Rules, IsInOrder, total_value, worth, spread};
 ghost use Rattle.dover_model.specs.Common.{last_deadline, last_tick_in};
 ghost use Rattle.clairvoyant.specs.best.BestSet.{IsBestSet, value_of, pieces_of, renumbered};
 

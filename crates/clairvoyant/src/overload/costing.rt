@@ -7,7 +7,7 @@ ghost use Rattle.dover_model.specs.declared.events.Version.TheVariants.{Two};
 ghost use Rattle.clairvoyant.specs.feasible.Feasibility.{CanMeet};
 ghost use Rattle.clairvoyant.specs.overload.Stretches.{IsStretch, IsReached, IsCosted, IsWorth, jobs_inside, sets_of};
 ghost use Rattle.clairvoyant.specs.overload.Stretches.{value_inside};
-ghost use Rattle.clairvoyant.specs.overload.Collecting.{HasCosted, HasRoom, IsCut, IsFirst, IsNear};
+ghost use Rattle.clairvoyant.specs.overload.Collecting.{HasCosted, HasRoom, IsFirst, IsNear};
 
 use crate::feasible::{Feasible, judge_feasible, work_inside};
 use crate::overload::caps::{MOST_SETS, cap};

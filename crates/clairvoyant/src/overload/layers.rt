@@ -1,6 +1,6 @@
 //! A cap on many jobs, by prices for ticks in layers.
-ghost use Rattle.std.specs.Prelude.{◌≡◌, ◌≤◌, ◌+◌, ◌-◌, ◌*◌, ℕ, List, cond, get_or, length, IsTrue, OnOk, IfOk};
-ghost use Rattle.dover_model.specs.Common.{IsInOrder, Rules, total_value, last_tick, most_jobs, worth, is_inside};
+ghost use Rattle.std.specs.Prelude.{◌≡◌, ◌≤◌, ◌+◌, ◌-◌, ◌*◌, ℕ, List, cond, get_or, length, OnOk, IfOk};
+ghost use Rattle.dover_model.specs.Common.{IsInOrder, Rules, total_value, most_jobs, worth, is_inside};
 ghost use Rattle.dover_model.specs.declared.events.Version.TheVariants.{Two};
 ghost use Rattle.clairvoyant.specs.overload.Pricing.{HasPriced, IsRaised};
 ghost use Rattle.clairvoyant.specs.overload.Stretches.{Caps};

@@ -4,7 +4,6 @@ ghost use Rattle.dover_model.specs.Common.{numerals, fields_of};
 ghost use Rattle.dover_model.specs.Verdict as verdict;
 ghost use Rattle.line_text.specs.Reading.{fields_left, number_of_first};
 ghost use Rattle.line_text.specs.declared.traces.lines.TraceLine.{TraceLine};
-ghost use Rattle.line_text.specs.declared.traces.lines.TraceLine.TheVariants.{Step};
 ghost use Rattle.line_text.specs.traces.Form.{HasForm, trace_text, item_in, rules_in};
 ghost use Rattle.line_text.specs.traces.Reading as model;
 

@@ -1,10 +1,10 @@
 //! What a fresh job's work is tested against, step by step.
-ghost use Rattle.std.specs.Prelude.{◌≡◌, ◌≤◌, ◌<◌, ◌^◌, ◌++◌, IfOk, OnOk, None, length, map};
+ghost use Rattle.std.specs.Prelude.{◌≡◌, ◌≤◌, ◌<◌, ◌^◌, ◌++◌, IfOk, OnOk, length, map};
 ghost use Rattle.std.specs.List.{AllByRecursion, enumerate_from};
 ghost use Rattle.run_record.specs.intervals.Rows.{IsRunOf};
 ghost use Rattle.run_record.specs.intervals.Rows as rows;
 ghost use Rattle.dover_model.specs.declared.events.Role.TheVariants.{Coming};
-ghost use Rattle.dover_model.specs.Common.{entry_of, Fraction, Instance, most_total, to_come};
+ghost use Rattle.dover_model.specs.Common.{entry_of, Fraction, Instance, most_total};
 ghost use Rattle.dover_model.specs.declared.events.Version.TheVariants.{Two};
 ghost use Rattle.dover_model.specs.Observed as observed;
 ghost use Rattle.run_record.specs.ledger.Pages.{entries_by, entries_of, had_in, page_of};

@@ -1,8 +1,7 @@
 //! What a report counts among the printed steps of a run.
-ghost use Rattle.std.specs.Prelude.{◌≡◌, ◌≤◌, ◌++◌, List, length, count_by, OnOk, IfOk, option_to_list};
+ghost use Rattle.std.specs.Prelude.{◌≡◌, ◌≤◌, ◌++◌, List, count_by, OnOk, IfOk, option_to_list};
 ghost use Rattle.dover_model.specs.declared.events.Event.{Event as PrintedStep};
-ghost use Rattle.dover_model.specs.declared.events.Version.TheVariants.{Two};
-ghost use Rattle.dover_model.specs.Common.{Instance, most_total, most_value, completed_value};
+ghost use Rattle.dover_model.specs.Common.{Instance, most_value, completed_value};
 ghost use Rattle.run_record.specs.intervals.Rows.{IsRunOf};
 ghost use Rattle.run_record.specs.intervals.Totals.{is_release, totals_of};
 ghost use Rattle.run_reports.specs.report.Counts.{job_released, jobs_released, value_in, counts_of};

@@ -1,5 +1,5 @@
 //! The table of jobs, row by row.
-ghost use Rattle.std.specs.Prelude.{◌≡◌, ◌≤◌, ◌+◌, ◌++◌, ◌∷◌, [], length, map, IfOk, decimal, slice_index_or};
+ghost use Rattle.std.specs.Prelude.{◌≡◌, ◌≤◌, ◌+◌, ◌++◌, ◌∷◌, [], length, map, IfOk, decimal};
 ghost use Rattle.dover_model.specs.Common.{Instance, job_numbers, in_lines, Fraction, table};
 ghost use Rattle.run_record.specs.intervals.Rows.{IsRunOf};
 ghost use Rattle.line_text.specs.Writing.{most_written};

@@ -6,7 +6,7 @@ ghost use Rattle.run_record.specs.intervals.Rows.{IsRunOf};
 ghost use Rattle.run_record.specs.intervals.Rows as rows;
 ghost use Rattle.run_record.specs.ledger.Rooms as tests;
 ghost use Rattle.dover_model.specs.declared.events.Event.{Event};
-ghost use Rattle.dover_model.specs.Common.{by_density, Fraction, Instance, most_total, most_value};
+ghost use Rattle.dover_model.specs.Common.{Fraction, Instance, most_total, most_value};
 ghost use Rattle.dover_model.specs.Fraction.{is_factor};
 ghost use Rattle.dover_model.specs.Observed as observed;
 ghost use Rattle.dover_model.specs.declared.events.Version.TheVariants.{Two};

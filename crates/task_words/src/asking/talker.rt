@@ -1,5 +1,5 @@
 //! What the reading loop calls: a reader of the tasks, of which something is asked at the end.
-ghost use Rattle.std.specs.Prelude.{◌≡◌, [], ◌≤◌};
+ghost use Rattle.std.specs.Prelude.{◌≡◌, []};
 ghost use Rattle.dialogue.specs.Turns.{StopCause, StopsOn};
 ghost use Rattle.dover_model.specs.Common.{IsRatio, IsDeclarable};
 ghost use Rattle.task_words.specs.tasks.Limits.{AreTasks};

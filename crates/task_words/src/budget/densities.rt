@@ -1,6 +1,5 @@
 //! Whether tasks are within the ratio of each other.
-ghost use Rattle.std.specs.Prelude.{◌≡◌, ◌<◌, ◌≤◌, length, false, IfSome, IsNone};
-ghost use Rattle.dover_model.specs.Limits.{most_value, most_work};
+ghost use Rattle.std.specs.Prelude.{◌≡◌, ◌<◌, length, false, IfSome, IsNone};
 ghost use Rattle.task_words.specs.budget.Budgets.{task_at};
 ghost use Rattle.task_words.specs.budget.Kept.{AreModest, IsModest};
 ghost use Rattle.task_words.specs.budget.Lines.{KeepUpTo, KeepsUpTo, keeps_ratio};

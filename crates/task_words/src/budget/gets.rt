@@ -1,5 +1,5 @@
 //! How often a job of a task gets the processor at most.
-ghost use Rattle.std.specs.Prelude.{◌≡◌, ◌<◌, ◌≤◌, get_or, length};
+ghost use Rattle.std.specs.Prelude.{◌≡◌, ◌<◌, ◌≤◌, length};
 ghost use Rattle.dover_model.specs.declared.events.Version.TheVariants.{Two};
 ghost use Rattle.dover_model.specs.Limits.{last_tick_in, most_value};
 ghost use Rattle.task_words.specs.budget.Budgets.{most_gets, most_preempting, most_taking, task_at};

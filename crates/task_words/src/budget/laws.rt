@@ -1,5 +1,5 @@
 //! What budgets promise, the contract of a function that does nothing.
-ghost use Rattle.std.specs.Prelude.{◌≡◌, ◌≤◌, ◌<◌, ◌+◌, ◌*◌, ℕ, List, length, true};
+ghost use Rattle.std.specs.Prelude.{◌≡◌, ◌≤◌, ◌<◌, ℕ, List, length, true};
 ghost use Rattle.dover_model.specs.declared.events.Task.{Task};
 ghost use Rattle.dover_model.specs.Common.{need, Instance, IsValid, JobFacts, end_state, ran, numbered, IsMember};
 ghost use Rattle.dover_model.specs.Common.{is_done, most_changes, useful};

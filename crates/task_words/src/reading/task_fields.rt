@@ -1,5 +1,5 @@
 //! A task from the fields of its line.
-ghost use Rattle.std.specs.Prelude.{◌≡◌, ◌≢◌, ◌≤◌, ℕ, List, length, take, drop, Some, None, IfSome, IfNone};
+ghost use Rattle.std.specs.Prelude.{◌≡◌, ◌≢◌, ℕ, List, length, take, drop, Some, None, IfSome, IfNone};
 ghost use Rattle.dover_model.specs.Common.{numerals};
 ghost use Rattle.line_text.specs.Reading.{fields_left};
 ghost use Rattle.task_words.specs.declared.reading.lines.TaskLine.TheVariants.{Task};

@@ -1,5 +1,5 @@
 //! Whether the jobs of tasks are no more, and worth no more, than a feed of version Two may have.
-ghost use Rattle.std.specs.Prelude.{◌≡◌, ◌↔◌, ◌≤◌, IsTrue};
+ghost use Rattle.std.specs.Prelude.{◌↔◌, IsTrue};
 ghost use Rattle.std.specs.List.{AllByRecursion};
 ghost use Rattle.task_words.specs.tasks.Limits.{Fits, IsTask};
 

@@ -1,5 +1,5 @@
 //! The answer to tasks.
-ghost use Rattle.std.specs.Prelude.{◌≡◌, [], true};
+ghost use Rattle.std.specs.Prelude.{◌≡◌, []};
 ghost use Rattle.dialogue.specs.Turns.{StopCause, StopsOn};
 ghost use Rattle.dover_model.specs.Common.{IsRatio, IsDeclarable};
 ghost use Rattle.task_words.specs.tasks.Limits.{AreTasks};
