@@ -83,7 +83,7 @@ impl<R: Rank> Heap<R> {
         self.items.len() as u32
     }
 
-    /// The item that comes before all others, if there is any.
+    /// An item before which no other comes, if there is any: one alone where no two have one number.
     #[inline(always)]
     pub fn first(&self) -> Option<Item<R>>
         ensures { IsFirst self.now result }
