@@ -1,6 +1,6 @@
 -- The order of items, as one by which they can be sorted.
-use Rattle.std.proofs.Common.{◌≡◌, ◌≢◌, ℕ, Bool, true, false, nat_lt, refl, arith}
-use Rattle.dover_model.proofs.steps.EntryOrders.{less_one_way, less_onward, less_total}
+use Rattle.std.proofs.Common.{◌≡◌, ℕ, Bool, true, false, nat_lt, refl, arith}
+use Rattle.dover_model.proofs.steps.EntryOrders.{less_one_way}
 use Rattle.place_heap.specs.Items.{ItemFacts, less_or, is_before}
 
 -- ---- by one number, and where two are equal by something else
@@ -13,13 +13,6 @@ behind_or : (k l m : ℕ) (t u w : Bool) → (t ≡ false → u ≡ false → w 
     → less_or m l u ≡ false
     → less_or m k w ≡ false
 behind_or k l m t u w ties h i = grind arith
-
-total_or : (k l : ℕ) (t u : Bool) → (t ≡ false → u ≡ true) → less_or k l t ≡ false → less_or l k u ≡ true
-total_or k l t u ties h = grind arith
-
-onward_or : (k l m : ℕ) (t u w : Bool) → (t ≡ true → u ≡ true → w ≡ true) → less_or k l t ≡ true
-    → less_or l m u ≡ true → less_or k m w ≡ true
-onward_or k l m t u w ties h i = grind arith
 
 less_behind : (k l m : ℕ) → nat_lt l k ≡ false → nat_lt m l ≡ false → nat_lt m k ≡ false
 less_behind k l m h i = grind arith
@@ -41,19 +34,8 @@ itself a = of (is_before a a) refl where
   of true is = one_way a a is
   of false is = is
 
-pub onward : (a b c : ItemFacts) → is_before a b ≡ true → is_before b c ≡ true → is_before a c ≡ true
-onward a b c = onward_or a.key b.key c.key (by_tie a b) (by_tie b c) (by_tie a c)
-    (onward_or a.tie b.tie c.tie (nat_lt a.number b.number) (nat_lt b.number c.number) (nat_lt a.number c.number)
-    (less_onward a.number b.number c.number))
-
 -- what isn't before b, which isn't before a, isn't before a
 pub behind : (a b c : ItemFacts) → is_before b a ≡ false → is_before c b ≡ false → is_before c a ≡ false
 behind a b c = behind_or a.key b.key c.key (by_tie b a) (by_tie c b) (by_tie c a)
     (behind_or a.tie b.tie c.tie (nat_lt b.number a.number) (nat_lt c.number b.number) (nat_lt c.number a.number)
     (less_behind a.number b.number c.number))
-
--- of two with different numbers one comes before the other
-pub total : (a b : ItemFacts) → a.number ≢ b.number → is_before a b ≡ false → is_before b a ≡ true
-total a b apart = total_or a.key b.key (by_tie a b) (by_tie b a)
-    (total_or a.tie b.tie (nat_lt a.number b.number) (nat_lt b.number a.number)
-    (less_total a.number b.number apart))
