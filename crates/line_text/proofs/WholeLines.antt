@@ -12,7 +12,7 @@ use Rattle.line_text.specs.declared.cutting.ByteEffect.TheVariants.{Line}
 use Rattle.line_text.specs.Cutting.{Cutting, StandsFor, HasCut, IsWholeLine, begun_line, most_count}
 
 -- where no line has begun, the lines are the whole ones
-lines_whole : (bytes : List ℕ) → rest_of bytes ≡ [] → lines_of bytes ≡ whole_lines bytes
+pub lines_whole : (bytes : List ℕ) → rest_of bytes ≡ [] → lines_of bytes ≡ whole_lines bytes
 lines_whole bytes none = ap (λ r. whole_lines bytes ++ cond (is_too_long r) (r ∷ []) []) none
     ∙ append-nil (whole_lines bytes)
 

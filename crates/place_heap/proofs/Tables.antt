@@ -8,6 +8,12 @@ use Rattle.std.proofs.lemmas.List.Sums.{sum_by-set, sum_by-cons, sum_by-append, 
 use Rattle.place_heap.specs.Items.{ItemFacts}
 use Rattle.place_heap.specs.Table.{nowhere, table_of, blank}
 
+-- at a free place stands nothing
+pub none_there : (k n : ℕ) → get_or (replicate {A = Option ItemFacts} k None) n None ≡ None
+none_there zero n = refl
+none_there (suc k) zero = refl
+none_there (suc k) (suc n) = none_there k n
+
 -- ---- one place changed
 
 -- what an item adds to the count

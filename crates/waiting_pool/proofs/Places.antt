@@ -10,6 +10,7 @@ use Rattle.dover_model.specs.declared.events.Task.{Task}
 use Rattle.dover_model.proofs.lists.Members.{some_same}
 use Rattle.dover_model.proofs.lists.Tests.{none_is_some}
 use Rattle.place_heap.specs.Items.{ItemFacts}
+use Rattle.place_heap.proofs.Tables.{none_there}
 use Rattle.waiting_pool.specs.Reordered.{IsReordered}
 use Rattle.waiting_pool.specs.Pools.{jobs_at, items_from, times, is_free, AreFree}
 use Rattle.waiting_pool.specs.Pools.{item_of}
@@ -293,11 +294,7 @@ module _ (item : ℕ → Task → ItemFacts) where
   pub item_job : (p : ℕ) (slots : List (Option Task)) (k n : ℕ) (i : ItemFacts)
       → get_or (items_from each p slots ++ replicate k None) n None ≡ Some i
       → (t : Task) × (slice_get slots n ≡ Some (Some t)) × (i ≡ item (p + n) t)
-  item_job p [] k n i at = none_is_some (sym (none_there k n) ∙ at) where
-    none_there : (k n : ℕ) → get_or (replicate {A = Option ItemFacts} k None) n None ≡ None
-    none_there zero n = refl
-    none_there (suc k) zero = refl
-    none_there (suc k) (suc n) = none_there k n
+  item_job p [] k n i at = none_is_some (sym (none_there k n) ∙ at)
   item_job p (None ∷ slots) k zero i at = none_is_some at
   item_job p (Some t ∷ slots) k zero i at = let same : p ≡ p + 0 = omega arith in
       (t, refl, sym (some_same (item p t) i at) ∙ ap (λ n. item n t) same)

@@ -1,8 +1,9 @@
-use Rattle.std.proofs.Common.{is_some, arith, ◌+◌, ◌-◌, ◌++◌, ◌∙◌, ℕ, zero, suc, List, [], Option, None, length}
+use Rattle.std.proofs.Common.{is_some, arith, ◌+◌, ◌-◌, ◌++◌, ◌∙◌, ℕ, List, [], Option, None, length}
 use Rattle.std.proofs.Common.{replicate, get_or, ◌≡◌, ap, refl, length-set, set, subst, sym, get_or-set_other}
 use Rattle.std.proofs.lemmas.List.Sums.{count_by-le-length}
 use Rattle.std.proofs.lemmas.List.{length-replicate}
 use Rattle.place_heap.specs.Items.{ItemFacts}
+use Rattle.place_heap.proofs.Tables.{none_there}
 use Rattle.task_words.specs.tasks.Merging.{IsNext, blank_task, kept_release}
 use Rattle.task_words.proofs.tasks.Merging.{first_more, stands_first}
 use Rattle.task_words.proofs.tasks.unrolling.first_releases.Goals as goal
@@ -37,11 +38,6 @@ blank n old new empty is =
     let zero_long : length old ≡ 0 = ap length empty in
     is ∙ ap (λ l. l ++ replicate (n - length old) None) empty
     ∙ ap (λ k. replicate k None) (let all : n - length old ≡ n = omega (arith, zero_long) in all)
-
-none_there : (n i : ℕ) → get_or (replicate {A = Option ItemFacts} n None) i None ≡ None
-none_there zero i = refl
-none_there (suc n) zero = refl
-none_there (suc n) (suc i) = none_there n i
 
 pub loop-task-init : goal.loop-task-init
 loop-task-init g c =
