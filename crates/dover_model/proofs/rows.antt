@@ -19,3 +19,5 @@ pub mod SureRows
 pub mod ThreeRows
 pub mod FourRows
 pub mod SwitchRows
+pub mod SectionRows
+pub mod HardRows

@@ -16,3 +16,6 @@ pub mod Honest
 pub mod Calm
 pub mod OneDensity
 pub mod PrintedCounts
+pub mod Recovering
+pub mod FreeRatio
+pub mod Demanding

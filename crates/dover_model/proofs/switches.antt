@@ -3,5 +3,8 @@ pub mod OneJob
 pub mod Switching
 pub mod Stretches
 pub mod PayingForward
+pub mod RunToTheEnd
 pub mod Families
 pub mod FewChanges
+pub mod HardWork
+pub mod StandingClock

@@ -23,12 +23,16 @@ pub mod Leading
 pub mod Online
 pub mod Sure
 pub mod Underload
+pub mod Recovery
 pub mod WaitingMoves
 pub mod Weights
 pub mod Spending
 pub mod Switches
 pub mod Slower
 pub mod Forward
+pub mod Sections
+pub mod HardWork
+pub mod Demand
 pub mod Processor
 pub mod Greatest
 pub mod Bound

@@ -2,8 +2,10 @@
 #![tactic(auto)]
 
 pub mod bound_laws;
+pub mod demand_laws;
 pub mod events;
 pub mod factors;
+pub mod hard_laws;
 pub mod horizon;
 pub mod jobs;
 mod kind;

@@ -2,11 +2,12 @@
 //! nothing.
 ghost use Rattle.std.specs.Prelude.{None, ◌≡◌, ◌≤◌, ◌+◌, ◌-◌, ◌*◌, ℕ, List, length, true, false, count_by};
 ghost use Rattle.dover_model.specs.Common.{Instance, IsValid, JobFacts, numbered, ticks_given, worth, run, ran};
-ghost use Rattle.dover_model.specs.Common.{completed_value, IsWithin, need, gains_from, Fraction, IsWithinSlower};
+ghost use Rattle.dover_model.specs.Common.{completed_value, IsWithin, need, gains_from, Fraction, IsWithinSlower, Each};
 ghost use Rattle.dover_model.specs.Common.{worth_by, end_state, observed, is_done, Task, IsMember, is_complete};
 ghost use Rattle.dover_model.specs.Common.{gets, changes_hands, is_complete_of, starts, returns};
 ghost use Rattle.dover_model.specs.Common.{may_preempt, may_take, most_changes, useful, AreOfTask};
 ghost use Rattle.dover_model.specs.Forward.{AreLoaded};
+ghost use Rattle.dover_model.specs.Sections.{Sections, AreSections, ArePaid, untouched, SaysDone, AreFinished};
 ghost use Rattle.dover_model.specs.Slower.{AskAtMost};
 ghost use Rattle.dover_model.specs.Switches.{is_preempted, is_taken_from, ComesBehind, NeedNoLess};
 
@@ -78,6 +79,20 @@ pub fn three_ticks_pay_for_changes()
     ensures enough { (J : Instance) (real : ℕ) (t : Task) → IsValid J → IsMember t (end_state J).tasks
         → is_done t ≡ true → real + 3 ≤ need J.rules.finishes t.number t.job.work
         → real ≤ gains_from t.number false (run J) }
+{}
+
+/// Budgets pay for sections that are run to their end before the processor is given away. A job loses ticks where it
+/// preempts, to the section of one that it may preempt, and where it takes, to that of one that it is heavy against. Where
+/// its budget holds both beside its own work, and the dispatcher says that a job is done as soon as it is and no section
+/// is under way, each job that is done had all its own work, whatever sections were begun before a preemption, a take or
+/// an abandonment. Twice the longest section is enough for all.
+pub fn budgets_pay_for_sections()
+    ensures each { (J : Instance) (k : Sections) (start take : ℕ → ℕ) → IsValid J → AreSections k
+        → ArePaid J k start take → SaysDone k untouched (run J) → AreFinished k untouched (run J) }
+    ensures all { (J : Instance) (k : Sections) (longest : ℕ) → IsValid J → AreSections k
+        → ((n had : ℕ) → k.inside n had ≤ longest)
+        → Each (λ n_j. k.own n_j.0 + 2 * longest ≤ n_j.1.work) (numbered J) → SaysDone k untouched (run J)
+        → AreFinished k untouched (run J) }
 {}
 
 /// A schedule of jobs that need no less, in windows that are no longer, is worth no more than the run's bound.

@@ -14,7 +14,8 @@ use Rattle.dover_model.proofs.steps.Ticking.{Quiet}
 use Rattle.dover_model.proofs.steps.Deeds.{tick_quiet}
 use Rattle.dover_model.proofs.steps.Kept.{step_deed, step_kept, opening_keeps, come_coming, end_same}
 use Rattle.dover_model.proofs.runs.Ending.{run_is_whole, run_over}
-use Rattle.dover_model.proofs.runs.Serving.{none_overfull}
+use Rattle.dover_model.proofs.runs.Serving.{none_overfull, NoneOverfull}
+use Rattle.dover_model.specs.Common.{jobs_of}
 use Rattle.dover_model.proofs.runs.Orderly.{ByDeadline}
 use Rattle.dover_model.proofs.runs.Underload.{deed_orderly, ticks_orderly}
 
@@ -93,15 +94,16 @@ value_of_run J valid =
     (run_over J valid).ends
     ∙ value_last 0 (value_sum (filter is_done (run_over J valid).last.tasks)) (printed_of (run_over J valid).front)
 
--- ---- where all jobs can be met, none is lost
+-- ---- where no window is overfull, none is lost
 
-module _ (J : Instance) (valid : IsValid J) (meets : Meets J) where
+module _ (J : Instance) (valid : IsValid J)
+    (room : (tasks : List Task) → jobs_of tasks ≡ J.jobs → NoneOverfull tasks) where
   -- each step keeps the order by deadlines and takes_or_abandons none
   step_orderly : (s : State) → Keeps J s → ByDeadline s → ByDeadline (after s (step J.rules s))
       × (takes_or_abandons (step J.rules s) ≡ false)
   step_orderly s keeps orderly =
       deed_orderly J.rules.ratio s (ending s or_else Ticks) keeps.sound orderly
-      (none_overfull J meets s.tasks keeps.jobs)
+      (room s.tasks keeps.jobs)
       (by_end (list_all is_over s.tasks)) (step J.rules s) (step_deed J valid s keeps J.rules) where
         by_end : (b : Bool) → Quiet s
             → ByDeadline (after s (then_some b (Prints (End (value_sum (filter is_done s.tasks)))) or_else Ticks)) ×
@@ -138,8 +140,8 @@ module _ (J : Instance) (valid : IsValid J) (meets : Meets J) where
       (opening_keeps J) opening_orderly (run_is_whole J valid)
 
   -- no step is a take or an abandonment
-  pub none_lost : Each (λ x. takes_or_abandons x.move ≡ false) (run J)
-  none_lost x member = let it : (x.move ≡ step J.rules x.before) × Keeps J x.before × ByDeadline x.before =
+  pub none_lost_in : Each (λ x. takes_or_abandons x.move ≡ false) (run J)
+  none_lost_in x member = let it : (x.move ≡ step J.rules x.before) × Keeps J x.before × ByDeadline x.before =
       each_step x member in ap takes_or_abandons it.0
       ∙ (step_orderly x.before it.1 it.2).1
 
@@ -171,8 +173,16 @@ module _ (J : Instance) (valid : IsValid J) (meets : Meets J) where
       ∙ ap (sum_by (λ j. j.value)) last_state.0.jobs
 
   -- the run has the value of all jobs
-  pub all_value : completed_value J ≡ sum_by (λ j. j.value) J.jobs
-  all_value = value_of_run J valid ∙ value_at_end
+  pub all_value_in : completed_value J ≡ sum_by (λ j. j.value) J.jobs
+  all_value_in = value_of_run J valid ∙ value_at_end
+
+-- ---- where all jobs can be met, none is lost
+
+pub none_lost : (J : Instance) → IsValid J → Meets J → Each (λ x. takes_or_abandons x.move ≡ false) (run J)
+none_lost J valid meets = none_lost_in J valid (none_overfull J meets)
+
+pub all_value : (J : Instance) → IsValid J → Meets J → completed_value J ≡ sum_by (λ j. j.value) J.jobs
+all_value J valid meets = all_value_in J valid (none_overfull J meets)
 
 -- ---- a whole run prints something
 

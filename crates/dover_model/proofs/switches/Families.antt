@@ -10,17 +10,17 @@ use Rattle.dover_model.proofs.lists.Members.{sum_le, sum_map}
 use Rattle.dover_model.proofs.lists.Tests.{never}
 
 -- a tick from a on and before b
-abbrev within : ℕ → ℕ → ℕ → Bool
+abbrev pub within : ℕ → ℕ → ℕ → Bool
 within a b r = nat_le a r && nat_lt r b
 
 -- a test that implies another counts no more
-implied : (p q : Bool) → (p ≡ true → q ≡ true) → one_if p ≤ one_if q
+pub implied : (p q : Bool) → (p ≡ true → q ≡ true) → one_if p ≤ one_if q
 implied false q then = omega arith
 implied true true then = omega arith
 implied true false then = never (then refl)
 
 -- both hold
-both_hold : (a b r : ℕ) → a ≤ r → r < b → within a b r ≡ true
+pub both_hold : (a b r : ℕ) → a ≤ r → r < b → within a b r ≡ true
 both_hold a b r low high = and_from (nat_le a r) (nat_lt r b) (le-leb _ _ low) (lt-ltb _ _ high)
 
 -- ticks that are spaced: few of them lie in a stretch
@@ -68,7 +68,7 @@ few_come distance a b (r ∷ rs) some spaced =
 module _ (i : JobFacts) (distance due : ℕ) (jobs : List (ℕ × JobFacts)) (some : 1 ≤ distance)
     (task : AreOfTask distance due jobs) where
   -- a count over the jobs is one over their releases
-  in_stretch : (test : ℕ × JobFacts → Bool) (a b : ℕ)
+  pub in_stretch : (test : ℕ × JobFacts → Bool) (a b : ℕ)
       → Each (λ n_j. test n_j ≡ true → (a ≤ n_j.1.release) × (n_j.1.release < b)) jobs
       → distance * count_by test jobs ≤ (b - a) + (distance - 1)
   in_stretch test a b all =

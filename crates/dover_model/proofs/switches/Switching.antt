@@ -266,7 +266,7 @@ module _ (s : State) (sound : IsSound s) (prompt : IsPrompt s) where
   displaced_fresh _ e = e
 
   -- each deed keeps it so
-  deed_prompt : (k : Fraction) (other : Move) → (Quiet s → IsPrompt (after s other)) → (m : Move) → Deed k s other m
+  pub deed_prompt : (k : Fraction) (other : Move) → (Quiet s → IsPrompt (after s other)) → (m : Move) → Deed k s other m
       → IsPrompt (after s m)
   deed_prompt k other rests m (Completed r member runs) = one_prompt r member Done (λ e. cc)
   deed_prompt k other rests m (Resumed p member held none least why) = one_prompt p member Running (λ e. cc)
@@ -299,7 +299,7 @@ module _ (s : State) (sound : IsSound s) (prompt : IsPrompt s) where
   deed_prompt k other rests m (Rested quiet) = rests quiet
 
 -- so does what is done where none of the first six cases applies
-rest_prompt : (s : State) → IsPrompt s → Quiet s → IsPrompt (after s (rest_of s))
+pub rest_prompt : (s : State) → IsPrompt s → Quiet s → IsPrompt (after s (rest_of s))
 rest_prompt s prompt quiet = by_end (list_all is_over s.tasks) where
   by_end : (b : Bool)
       → IsPrompt (after s (then_some b (Prints (End (value_sum (filter is_done s.tasks)))) or_else Ticks))
@@ -333,7 +333,7 @@ module _ (J : Instance) (valid : IsValid J) where
       (run_is_whole J valid)
 
   -- a task is of a job under its number
-  numbered_there : (s : State) → Keeps J s → (t : Task) → IsMember t s.tasks → IsMember (t.number, t.job) (numbered J)
+  pub numbered_there : (s : State) → Keeps J s → (t : Task) → IsMember t s.tasks → IsMember (t.number, t.job) (numbered J)
   numbered_there s keeps t member =
       subst (λ jobs. IsMember (t.number, t.job) (enumerate_from 0 jobs)) keeps.jobs
       (job_there 0 s.tasks keeps.sound.numbered t member)
