@@ -6,8 +6,6 @@ pub mod settled
 pub mod finishes
 pub mod bound
 pub mod rest
-pub mod sure
-pub mod switches
 pub mod texts
 pub mod sessions
 pub mod traces

@@ -9,6 +9,4 @@ pub mod Closing
 pub mod Booked
 pub mod BookedRun
 pub mod BoundLaws
-pub mod LongerJobs
-pub mod SlowerLaws
 pub mod GreatestLaws

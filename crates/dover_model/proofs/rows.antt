@@ -15,9 +15,5 @@ pub mod GeneratorRows
 pub mod BaitRows
 pub mod RestRows
 pub mod FinishRows
-pub mod SureRows
 pub mod ThreeRows
 pub mod FourRows
-pub mod SwitchRows
-pub mod SectionRows
-pub mod HardRows

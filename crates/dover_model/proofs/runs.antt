@@ -16,6 +16,3 @@ pub mod Honest
 pub mod Calm
 pub mod OneDensity
 pub mod PrintedCounts
-pub mod Recovering
-pub mod FreeRatio
-pub mod Demanding

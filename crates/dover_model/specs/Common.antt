@@ -62,20 +62,13 @@ pub use Rattle.dover_model.specs.Paths.{HasPrinted, IsOpenPath, IsPath}
 pub use Rattle.dover_model.specs.Leading.{floor_after, GoesOn, Idles, IsSilent, Leads, Passes, PrintsNext, Settles}
 pub use Rattle.dover_model.specs.Leading.{WaitsUntil}
 pub use Rattle.dover_model.specs.Online.{finishes_up_to, known_at, printed_up_to}
-pub use Rattle.dover_model.specs.Sure.{AreOfStreams, best_of, blank_stream, CanStack, is_spread, IsCompleted, IsHeavyAt}
-pub use Rattle.dover_model.specs.Sure.{IsOfStream, IsSure, most_beside, most_crossing, most_fitting, NoneDisplaces}
-pub use Rattle.dover_model.specs.Sure.{NoneMeets}
-pub use Rattle.dover_model.specs.Sure.{others, Stream, stream_at, worth_beside, worth_of}
 pub use Rattle.dover_model.specs.Underload.{SomeRuns, takes_or_abandons}
 pub use Rattle.dover_model.specs.WaitingMoves.{enters, leaves, role_then, waits_then}
 pub use Rattle.dover_model.specs.Weights.{one_if, standing, stands, weight, weight_in}
 pub use Rattle.dover_model.specs.Spending.{cost_of, CostsAtMost, exits, exits_scale, HasSpentFor, HasSpentFreely}
 pub use Rattle.dover_model.specs.Spending.{waiting_count, waits_among}
-pub use Rattle.dover_model.specs.Switches.{AreOfTask, changes_hands, gets, is_complete_of, may_preempt, may_take}
-pub use Rattle.dover_model.specs.Switches.{most_changes, returns, starts, useful}
-pub use Rattle.dover_model.specs.Slower.{IsWithinSlower, worth_by}
-pub use Rattle.dover_model.specs.Forward.{gains_from}
-pub use Rattle.dover_model.specs.Processor.{is_complete, is_preempt_of, is_run, is_take_of, runner_of}
+pub use Rattle.dover_model.specs.Processor.{changes_hands, gets, is_complete, is_preempt_of, is_run, is_take_of}
+pub use Rattle.dover_model.specs.Processor.{runner_of}
 pub use Rattle.dover_model.specs.Greatest.{greatest, IsGreatest}
 pub use Rattle.dover_model.specs.Bound.{bound, bound_by, is_within, is_within_by, is_within_root, IsWithin, scale}
 pub use Rattle.dover_model.specs.Bound.{share}

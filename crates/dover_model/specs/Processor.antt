@@ -14,6 +14,20 @@ abbrev pub is_preempt_of : ℕ → Move → Bool
 is_preempt_of n (Prints (Preempt at stops starts)) = starts == n
 is_preempt_of n _ = false
 
+-- the job of this number gets the processor: a free one, or by a preemption or a take
+abbrev pub gets : ℕ → Move → Bool
+gets n (Prints (Run at starts)) = starts == n
+gets n (Prints (Preempt at stops starts)) = starts == n
+gets n (Prints (Take at stops starts)) = starts == n
+gets n _ = false
+
+-- some job does
+abbrev pub changes_hands : Move → Bool
+changes_hands (Prints (Run at starts)) = true
+changes_hands (Prints (Preempt at stops starts)) = true
+changes_hands (Prints (Take at stops starts)) = true
+changes_hands _ = false
+
 -- a job begins or goes on at a free processor
 abbrev pub is_run : Move → Bool
 is_run (Prints (Run at n)) = true

@@ -2,10 +2,8 @@
 #![tactic(auto)]
 
 pub mod bound_laws;
-pub mod demand_laws;
 pub mod events;
 pub mod factors;
-pub mod hard_laws;
 pub mod horizon;
 pub mod jobs;
 mod kind;
@@ -14,7 +12,6 @@ pub mod pieces;
 pub mod ratios;
 pub mod rest_laws;
 pub mod run_laws;
-pub mod switch_laws;
 pub mod trace_laws;
 
 pub use events::{Entry, Event, Refusal, Role, Task, Version};

@@ -1,7 +1,8 @@
 -- What is promised of tasks that are told sure.
 use Rattle.std.proofs.Common.{◌≡◌, ℕ, List, [], ◌∷◌, Bool, true, ap, ◌∙◌, inl, inr, cond, codes, nat_lt}
 use Rattle.std.proofs.lemmas.Bool.{and_parts}
-use Rattle.dover_model.specs.Common.{Declaration, most_value, with_numbers, is_heavy, Stream, stream_at, is_spread}
+use Rattle.dover_model.specs.Common.{Declaration, most_value, with_numbers, is_heavy}
+use Rattle.task_laws.specs.Sure.{Stream, stream_at, is_spread}
 use Rattle.dover_port.specs.Moves.{Move, ins, outs}
 use Rattle.dover_port.specs.declared.status.Status.TheVariants.{Done, Refused}
 use Rattle.root_compare.specs.Least.{least_heavy}

@@ -1,7 +1,8 @@
 -- What is promised of tasks that are written with budgets.
 use Rattle.std.specs.Prelude.{◌≡◌, ◌≤◌, ℕ, List, true, Some}
 use Rattle.dover_model.specs.declared.events.Task.{Task}
-use Rattle.dover_model.specs.Common.{need, Declaration, Instance, IsValid, end_state, ran, IsMember, is_done, useful}
+use Rattle.dover_model.specs.Common.{need, Declaration, Instance, IsValid, end_state, ran, IsMember, is_done}
+use Rattle.task_laws.specs.Switches.{useful}
 use Rattle.dover_port.specs.Moves.{Move, ins, outs}
 use Rattle.task_words.specs.budget.Budgets.{AreOfTasks, budgeted, task_at}
 use Rattle.task_words.specs.budget.Lines.{tasks_text}

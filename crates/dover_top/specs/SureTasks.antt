@@ -1,7 +1,8 @@
 -- What is promised of tasks that are told sure.
 use Rattle.std.specs.Prelude.{◌≡◌, ℕ, List, [], ◌∷◌, true, Some, codes}
 use Rattle.dover_model.specs.Common.{Declaration, Instance, IsValid, JobFacts, in_lines, with_numbers, numbered}
-use Rattle.dover_model.specs.Common.{IsMember, AreOfStreams, IsCompleted, IsOfStream, stream_at}
+use Rattle.dover_model.specs.Common.{IsMember}
+use Rattle.task_laws.specs.Sure.{AreOfStreams, IsCompleted, IsOfStream, stream_at}
 use Rattle.dover_port.specs.Moves.{Move, ins, outs}
 use Rattle.task_words.specs.reading.Account.{account}
 use Rattle.task_words.specs.sure.Lines.{sure_line, sure_lines}

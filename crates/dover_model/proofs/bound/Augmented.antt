@@ -7,11 +7,10 @@ use Rattle.std.proofs.lemmas.Bool.{cases_lt}
 use Rattle.std.proofs.lemmas.Nat.{mul-le}
 use Rattle.std.proofs.Math.Nat.{mul-sub, mul-le-mul_left}
 use Rattle.std.proofs.lemmas.List.Sums.{sum_by-cons, sum_by-append}
-use Rattle.dover_model.specs.Common.{Fraction, Factor, IsWithin, IsWithinSlower, Row, IsRow, TakenIn, IsDense}
+use Rattle.dover_model.specs.Common.{Fraction, Factor, IsWithin, Row, IsRow, TakenIn, IsDense}
 use Rattle.dover_model.specs.Common.{completed_in, row_sum, Job, IsPaid, IsPaidBy, IsExcess, IsExcessBy, IsMember, Each}
 use Rattle.dover_model.specs.Common.{ticks_given, is_served, job_value}
 use Rattle.dover_model.specs.Fraction.{fraction}
-use Rattle.dover_model.specs.Slower.{is_within_slower_root, is_within_slower_by}
 use Rattle.dover_model.specs.Books.{GoneIn}
 use Rattle.dover_model.proofs.lists.Members.{each_cons, sum_le, sum_plus, sum_filter, term_le_sum, member_filter}
 use Rattle.dover_model.proofs.lists.Members.{cond_le, sum_zero}
@@ -519,83 +518,6 @@ module _ (k e : Fraction) (asked : Job → ℕ) (v w : ℕ) (busy : ℕ → Bool
               (excess_add k some_q ratio here.above rest.above _ _ here.below rest.below);
         }
 
--- ---- what stands above the part without a root
-
--- what is so far above stands within by the root
-slower_from : (k e : Fraction) (c a m : ℕ) → 1 ≤ k.q
-    → k.q * e.q * c ≤ (k.q * e.q + k.p * e.q + 2 * k.p * e.p) * a + m
-    → Below (k.p * k.q) (k.q * m) ((2 * k.q * e.q + k.q * e.p + k.p * e.p) * a)
-    → IsTrue (is_within_slower_root k e c a)
-slower_from k e c a m some most below =
-    by_parts (k.q * e.q * c - (k.q * e.q + k.p * e.q + 2 * k.p * e.p) * a)
-    ((2 * k.q * e.q + k.q * e.p + k.p * e.p) * a)
-    (differ (k.q * e.q * c) ((k.q * e.q + k.p * e.q + 2 * k.p * e.p) * a) m most) below where
-      differ : (u v m : ℕ) → u ≤ v + m → u - v ≤ m
-      differ u v m most = omega arith
-
-      by_parts : (x y : ℕ) → x ≤ m → Below (k.p * k.q) (k.q * m) y → nat_le (k.q * x * x) (k.p * y * y) ≡ true
-      by_parts x y less low =
-          let square : k.q * m * (k.q * m) ≤ k.p * k.q * y * y = low in
-          let smaller : x * x ≤ m * m = mul-le x x m m less less in
-          let times : k.q * k.q * (x * x) ≤ k.q * k.q * (m * m) =
-          mul-le-mul_left (k.q * k.q) smaller in
-          le-leb _ _ (let cut : k.q * x * x ≤ k.p * y * y =
-          cancel k.q (k.q * x * x) (k.p * y * y) some (omega arith) in cut)
-
--- so often as much stands below the root of so often as much
-below_times : (m x a c : ℕ) → Below m x a → Below m (c * x) (c * a)
-below_times m x a c low =
-    let times : c * c * (x * x) ≤ c * c * (m * a * a) =
-    mul-le-mul_left (c * c) low in omega arith
-
--- The sum of the rows' parts: what is done as usual (r) and after a take (z), what was displaced (d), and what is above
--- (y).
-module _ (k e : Fraction) (some_q : 1 ≤ k.q) (ratio : k.q ≤ k.p) where
-  -- by the root
-  root_parts : (c r z d y : ℕ) → k.q * e.q * c
-      ≤ (k.q * e.q + k.p * e.q + 2 * k.p * e.p) * (r + z)
-      + ((e.q + e.p) * (k.p * d) + k.q * e.q * r + (k.q * e.q + k.p * e.p) * y)
-      → k.p * d * d ≤ k.q * z * z → k.q * y * y ≤ k.p * (r + z) * (r + z)
-      → IsTrue (is_within_slower_root k e c (r + z))
-  root_parts c r z d y most paid little =
-      slower_from k e c (r + z) ((e.q + e.p) * (k.p * d) + k.q * e.q * r + (k.q * e.q + k.p * e.p) * y) some_q most
-      (let first : Below (k.p * k.q) (k.q * (e.q + e.p) * (k.p * d)) (k.q * (e.q + e.p) * z) =
-      below_times (k.p * k.q) (k.p * d) z (k.q * (e.q + e.p)) (displaced_below k some_q ratio d z paid) in
-      let second : Below (k.p * k.q) (k.q * e.q * (k.q * r)) (k.q * e.q * r) =
-      below_times (k.p * k.q) (k.q * r) r (k.q * e.q) (regular_below k some_q ratio r) in
-      let third : Below (k.p * k.q) ((k.q * e.q + k.p * e.p) * (k.q * y)) ((k.q * e.q + k.p * e.p) * (r + z)) =
-      below_times (k.p * k.q) (k.q * y) (r + z) (k.q * e.q + k.p * e.p)
-      (excess_below k some_q ratio y (r + z) little) in
-      let two : Below (k.p * k.q) (k.q * (e.q + e.p) * (k.p * d) + k.q * e.q * (k.q * r))
-      (k.q * (e.q + e.p) * z + k.q * e.q * r) =
-      below_add (k.p * k.q) (k.q * (e.q + e.p) * (k.p * d)) (k.q * e.q * (k.q * r)) (k.q * (e.q + e.p) * z)
-      (k.q * e.q * r) first second in
-      below_mono (k.p * k.q)
-      (k.q * (e.q + e.p) * (k.p * d) + k.q * e.q * (k.q * r) + (k.q * e.q + k.p * e.p) * (k.q * y))
-      (k.q * ((e.q + e.p) * (k.p * d) + k.q * e.q * r + (k.q * e.q + k.p * e.p) * y))
-      (k.q * (e.q + e.p) * z + k.q * e.q * r + (k.q * e.q + k.p * e.p) * (r + z))
-      ((2 * k.q * e.q + k.q * e.p + k.p * e.p) * (r + z)) (omega arith) (omega arith)
-      (below_add (k.p * k.q) (k.q * (e.q + e.p) * (k.p * d) + k.q * e.q * (k.q * r))
-      ((k.q * e.q + k.p * e.p) * (k.q * y)) (k.q * (e.q + e.p) * z + k.q * e.q * r)
-      ((k.q * e.q + k.p * e.p) * (r + z)) two third))
-
-  -- by the root, or by a factor
-  parts_by : (o : Option Factor) (c r z d y : ℕ) → k.q * e.q * c
-      ≤ (k.q * e.q + k.p * e.q + 2 * k.p * e.p) * (r + z)
-      + ((e.q + e.p) * (k.p * d) + k.q * e.q * r + (k.q * e.q + k.p * e.p) * y)
-      → IsPaidBy k o d z → IsExcessBy k o y (r + z) → IsTrue (is_within_slower_by k o e c (r + z))
-  parts_by None c r z d y most paid little = root_parts c r z d y most paid little
-  parts_by (Some f) c r z d y most paid little = le-leb _ _
-      (factor_within ((e.q + e.p) * k.p) (k.q * e.q + k.p * e.p) (k.q * e.q) f c r z d y (omega (arith, most)) paid
-      little)
-
-  -- they stand within the wider bound
-  slower_parts : (c r z d y : ℕ) → k.q * e.q * c
-      ≤ (k.q * e.q + k.p * e.q + 2 * k.p * e.p) * (r + z)
-      + ((e.q + e.p) * (k.p * d) + k.q * e.q * r + (k.q * e.q + k.p * e.p) * y)
-      → IsPaid k d z → IsExcess k y (r + z) → IsWithinSlower k e c (r + z)
-  slower_parts = parts_by k.factor
-
 -- ---- all rows, against one schedule
 
 module _ (k e : Fraction) (asked : Job → ℕ) (v w : ℕ) (jobs : List Job) (rows : List Row) (busy : ℕ → Bool)
@@ -636,21 +558,21 @@ module _ (k e : Fraction) (asked : Job → ℕ) (v w : ℕ) (jobs : List Job) (r
         (λ n_j m. (all_asked n_j m).modest) row member
 
   -- regular, taken and displaced over all rows
-  abbrev regular_all : ℕ
+  abbrev pub regular_all : ℕ
   regular_all = sum_by (λ row. row.interval.regular) rows
 
-  abbrev taken_all : ℕ
+  abbrev pub taken_all : ℕ
   taken_all = sum_by (λ row. row.interval.taken) rows
 
-  abbrev displaced_all : ℕ
+  abbrev pub displaced_all : ℕ
   displaced_all = sum_by (λ row. row.interval.displaced) rows
 
   -- all that the schedule serves
-  abbrev served_all : ℕ
+  abbrev pub served_all : ℕ
   served_all = sum_by (served_value k e asked v w busy s) jobs
 
   -- what it is worth, by the rows' parts
-  record Counted : Type 0 where
+  pub record Counted : Type 0 where
     pub above : ℕ
     pub most : k.q * e.q * served_all ≤ (k.q * e.q + k.p * e.q + 2 * k.p * e.p) * (regular_all + taken_all)
         + ((e.q + e.p) * (k.p * displaced_all) + k.q * e.q * regular_all + (k.q * e.q + k.p * e.p) * above)
@@ -658,7 +580,7 @@ module _ (k e : Fraction) (asked : Job → ℕ) (v w : ℕ) (jobs : List Job) (r
     pub little : IsExcess k above (regular_all + taken_all)
 
   -- as the rows are paid
-  counted : Counted
+  pub counted : Counted
   counted = from_paid (rows_paid k e asked v w busy s books.some_q books.ratio rows books.rows_are books.exact
       (row_names k v w jobs rows busy books s) rows_asked) where
         value_is : served_all ≡ sum_by (row_sum (served_value k e asked v w busy s)) rows
@@ -699,12 +621,6 @@ module _ (k e : Fraction) (asked : Job → ℕ) (v w : ℕ) (jobs : List Job) (r
               (ticks_taken e.p e.q k.p k.q v w (sum_by (λ row. row.interval.until - row.interval.from) rows)
               (regular_all + displaced_all) (sum_by (λ row. row.had) rows)
               (ticks_worth k v w jobs rows busy books s))))
-
-  -- all that a schedule serves is worth no more than the wider bound of what is completed
-  pub slower_bound : IsWithinSlower k e served_all (sum_by completed_in rows)
-  slower_bound = subst (IsWithinSlower k e served_all) (sym (completed_parts k v w jobs rows busy books s))
-      (slower_parts k e books.some_q books.ratio served_all regular_all taken_all displaced_all counted.above
-      counted.most counted.displaced counted.little)
 
 -- where no less is asked for a job than all of its work, it is worth no more than the bound of what is completed
 pub books_bound : (k : Fraction) (v w : ℕ) (jobs : List Job) (rows : List Row) (busy : ℕ → Bool)

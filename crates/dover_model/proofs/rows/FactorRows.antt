@@ -3,7 +3,6 @@ use Rattle.std.proofs.Common.{◌≡◌, ℕ, List, [], ◌∷◌, refl, codes, 
 use Rattle.std.specs.Fmt.{digits}
 use Rattle.dover_model.specs.Common.{Fraction, fraction, with_factor, is_heavy, instance_of, completed_value, bound}
 use Rattle.dover_model.specs.Common.{verdict, Verdict, Accepted, Wrong, closed}
-use Rattle.dover_model.specs.Slower.{is_within_slower}
 use Rattle.dover_model.proofs.rows.Written.{bytes}
 
 -- the ratio p with the factor b/c
@@ -50,34 +49,6 @@ so_it_has = refl
 -- the greatest of all
 greatest : bound (ratio 1_000_000 1_001 1_000) 999_999_999_999_999_999 ≡ 1_001_000_001_000_999_998_998_999_998
 greatest = refl
-
--- ---- the bound against shorter jobs, a tenth: 10.8 times as much, by the root and by the factor that is one more
-
-shorter : is_within_slower (ratio 4 3 1) (fraction 1 10) 54 5 ≡ true
-shorter = refl
-
-no_more : is_within_slower (ratio 4 3 1) (fraction 1 10) 55 5 ≡ false
-no_more = refl
-
-so_by_the_root : is_within_slower (fraction 4 1) (fraction 1 10) 54 5 ≡ true
-so_by_the_root = refl
-
-no_more_by_the_root : is_within_slower (fraction 4 1) (fraction 1 10) 55 5 ≡ false
-no_more_by_the_root = refl
-
--- where (1+e)·k/(β-1) is more than one: 2·1.4 + 4.4 + 4.4
-by_less : is_within_slower (ratio 4 2 1) (fraction 1 10) 58 5 ≡ true
-by_less = refl
-
-no_more_by_less : is_within_slower (ratio 4 2 1) (fraction 1 10) 59 5 ≡ false
-no_more_by_less = refl
-
--- where one is more: 9·1.4 + 4.4 + 1
-by_more : is_within_slower (ratio 4 9 1) (fraction 1 10) 90 5 ≡ true
-by_more = refl
-
-no_more_by_more : is_within_slower (ratio 4 9 1) (fraction 1 10) 91 5 ≡ false
-no_more_by_more = refl
 
 -- ---- feeds
 

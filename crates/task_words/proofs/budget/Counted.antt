@@ -11,10 +11,11 @@ use Rattle.std.proofs.lemmas.List.{get_or-map, length-map}
 use Rattle.std.proofs.lemmas.List.Sums.{sum_by-cons}
 use Rattle.dover_model.specs.declared.events.Task.{Task}
 use Rattle.dover_model.specs.Common.{need, Fraction, Instance, IsValid, JobFacts, end_state, is_heavy, ran, numbered}
-use Rattle.dover_model.specs.Common.{IsMember, Each, is_done, AreOfTask, may_preempt, may_take, most_changes, useful}
-use Rattle.dover_model.proofs.switches.Families.{few_of_task_preempt, few_of_task_take}
+use Rattle.dover_model.specs.Common.{IsMember, Each, is_done}
+use Rattle.task_laws.specs.Switches.{AreOfTask, may_preempt, may_take, most_changes, useful}
+use Rattle.task_laws.proofs.switches.Families.{few_of_task_preempt, few_of_task_take}
 use Rattle.dover_model.proofs.lists.Members.{sum_le, sum_same, sum_zero, sum_plus, filter_member}
-use Rattle.dover_model.proofs.switches.Stretches.{budget_holds, its_job}
+use Rattle.task_laws.proofs.switches.Stretches.{budget_holds, its_job}
 use Rattle.task_words.specs.tasks.Merging.{blank_task}
 use Rattle.task_words.specs.declared.tasks.task.PeriodicTask.{PeriodicTask}
 use Rattle.task_words.specs.budget.Budgets.{most_preempting, most_taking, most_gets, with_budget, budgeted, task_at}

@@ -6,7 +6,7 @@ use Rattle.std.specs.List.{sum_by, enumerate_from}
 use Rattle.std.proofs.lemmas.Bool.{ne_eqb, eq-eqb, cases_lt}
 use Rattle.std.proofs.lemmas.List.{length-replicate}
 use Rattle.std.proofs.lemmas.List.Sums.{sum_by-cons}
-use Rattle.dover_model.specs.Sure.{Stream, stream_at, blank_stream, most_crossing, others}
+use Rattle.task_laws.specs.Sure.{Stream, stream_at, blank_stream, most_crossing, others}
 
 module _ {X : Type 0} (f : X → ℕ) (x : ℕ) where
   -- a member counts, unless its number is x

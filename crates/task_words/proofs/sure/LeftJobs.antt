@@ -3,7 +3,7 @@ use Rattle.std.proofs.Common.{◌≡◌, ℕ, zero, suc, ◌+◌, ◌≤◌, ◌
 use Rattle.std.proofs.Common.{◌∙◌, drop, eqb, arith}
 use Rattle.std.proofs.lemmas.List.{drop_more}
 use Rattle.std.specs.List.{enumerate_from}
-use Rattle.dover_model.specs.Sure.{Stream, stream_at, blank_stream, most_crossing, others}
+use Rattle.task_laws.specs.Sure.{Stream, stream_at, blank_stream, most_crossing, others}
 use Rattle.task_words.specs.sure.Kept.{copies, left_from}
 use Rattle.task_words.specs.sure.Streams.{count_beside}
 use Rattle.task_words.proofs.sure.Beside.{copied, length_others}

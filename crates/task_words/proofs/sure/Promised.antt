@@ -6,12 +6,14 @@ use Rattle.std.specs.List.{enumerate_from}
 use Rattle.std.proofs.lemmas.Bool.{and_parts}
 use Rattle.std.proofs.lemmas.List.Sums.{sum_by-cons}
 use Rattle.dover_model.specs.Common.{Fraction, IsRatio, Instance, IsValid, JobFacts, most_value, IsHeavy, is_heavy}
-use Rattle.dover_model.specs.Common.{numbered, IsMember, AreOfStreams, IsCompleted, IsOfStream, Stream, is_spread}
-use Rattle.dover_model.specs.Common.{stream_at, blank_stream, CanStack, worth_of, most_fitting, most_beside}
-use Rattle.dover_model.specs.Common.{most_crossing, others, best_of, by_density, IsSure}
+use Rattle.dover_model.specs.Common.{numbered, IsMember}
+use Rattle.task_laws.specs.Sure.{AreOfStreams, IsCompleted, IsOfStream, Stream, is_spread}
+use Rattle.task_laws.specs.Sure.{stream_at, blank_stream, CanStack, worth_of, most_fitting, most_beside}
+use Rattle.task_laws.specs.Sure.{most_crossing, others, best_of, IsSure}
+use Rattle.dover_model.specs.Common.{by_density}
 use Rattle.dover_model.specs.declared.events.Version.{Version}
-use Rattle.dover_model.proofs.sure.Streams.{sure_streams, sure_streams_in_all, sure_of_stream, heavy_by_sum}
-use Rattle.dover_model.proofs.sure.Streams.{heavy_by_sets}
+use Rattle.task_laws.proofs.sure.Streams.{sure_streams, sure_streams_in_all, sure_of_stream, heavy_by_sum}
+use Rattle.task_laws.proofs.sure.Streams.{heavy_by_sets}
 use Rattle.root_compare.specs.Least.{least_heavy}
 use Rattle.root_compare.proofs.Least.{heavy_where}
 use Rattle.task_words.proofs.sure.Beside.{but}

@@ -5,7 +5,8 @@ use Rattle.std.specs.Prelude.{nat_le}
 use Rattle.std.specs.List.{enumerate_from, list_all}
 use Rattle.std.proofs.lemmas.Nat.{mul-le}
 use Rattle.std.proofs.lemmas.Bool.{eq-eqb, ne_eqb, leb-true, le-leb, cases_lt}
-use Rattle.dover_model.specs.Common.{Fraction, IsMember, Stream, stream_at, blank_stream}
+use Rattle.dover_model.specs.Common.{Fraction, IsMember}
+use Rattle.task_laws.specs.Sure.{Stream, stream_at, blank_stream}
 use Rattle.dover_model.proofs.bound.Calculus.{cancel}
 use Rattle.dover_model.proofs.lists.Members.{all_each, not_all}
 use Rattle.task_words.specs.declared.sure.densities.Sparse.{Sparse}

@@ -7,7 +7,8 @@ use Rattle.std.proofs.Math.Nat.{mul-le-mul_right, mul-le-mul_left}
 use Rattle.std.proofs.lemmas.Bool.{cases_lt}
 use Rattle.std.proofs.lemmas.Grind.{div_ceil_times}
 use Rattle.std.proofs.lemmas.List.{length-map, get_or-map}
-use Rattle.dover_model.specs.Common.{Fraction, Stream, stream_at, blank_stream, most_crossing}
+use Rattle.dover_model.specs.Common.{Fraction}
+use Rattle.task_laws.specs.Sure.{Stream, stream_at, blank_stream, most_crossing}
 use Rattle.dover_model.proofs.valid.JobLimits.{job_limits}
 use Rattle.task_words.specs.tasks.Limits.{IsTask, AreTasks}
 use Rattle.task_words.specs.tasks.Merging.{blank_task}

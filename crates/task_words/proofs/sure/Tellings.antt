@@ -1,8 +1,9 @@
 -- What is told of a task is its line.
 use Rattle.std.proofs.Common.{◌≡◌, ℕ, ◌≤◌, ◌<◌, List, [], ◌∷◌, refl, sym, ap, ◌∙◌, Bool, true, false, cond, arith}
 use Rattle.std.proofs.Common.{nat_lt, codes, lt-ltb, le-ltb}
-use Rattle.dover_model.specs.Common.{Declaration, Fraction, most_value, with_numbers, is_heavy, Stream, stream_at}
-use Rattle.dover_model.specs.Common.{is_spread}
+use Rattle.dover_model.specs.Common.{Declaration, Fraction, most_value, with_numbers, is_heavy}
+use Rattle.task_laws.specs.Sure.{Stream, stream_at}
+use Rattle.task_laws.specs.Sure.{is_spread}
 use Rattle.dover_model.proofs.bound.Calculus.{heavy_more}
 use Rattle.root_compare.specs.Least.{least_heavy}
 use Rattle.task_words.specs.declared.sure.telling.Told.TheVariants as told

@@ -2,7 +2,8 @@
 use Rattle.std.specs.Prelude.{◌≡◌, ℕ, ◌+◌, ◌-◌, ◌*◌, ◌<◌, ◌==◌, List, map, length, get_or, nat_lt, if◌then◌else◌}
 use Rattle.std.specs.Int.{div_ceil}
 use Rattle.std.specs.List.{filter, sum_by}
-use Rattle.dover_model.specs.Common.{Fraction, Instance, JobFacts, is_heavy, numbered, Each, AreOfTask}
+use Rattle.dover_model.specs.Common.{Fraction, Instance, JobFacts, is_heavy, numbered, Each}
+use Rattle.task_laws.specs.Switches.{AreOfTask}
 use Rattle.task_words.specs.tasks.Merging.{blank_task}
 use Rattle.task_words.specs.declared.tasks.task.PeriodicTask.{PeriodicTask}
 

@@ -3,7 +3,8 @@ use Rattle.std.specs.Prelude.{◌≡◌, ◌≢◌, ℕ, ◌+◌, ◌*◌, ◌�
 use Rattle.std.specs.Prelude.{if◌then◌else◌, ◌==◌, codes}
 use Rattle.std.specs.List.{sum_by, enumerate_from}
 use Rattle.dover_model.specs.declared.events.Version.TheVariants.{Two}
-use Rattle.dover_model.specs.Common.{last_tick_in, most_value, with_numbers, Stream, stream_at, most_crossing, others}
+use Rattle.dover_model.specs.Common.{last_tick_in, most_value, with_numbers}
+use Rattle.task_laws.specs.Sure.{Stream, stream_at, most_crossing, others}
 use Rattle.task_words.specs.declared.sure.densities.Sparse.{Sparse}
 use Rattle.task_words.specs.declared.sure.sums.Sums.{Sums}
 use Rattle.task_words.specs.declared.sure.telling.Told.{Told}

@@ -1,8 +1,9 @@
 -- The lines of the word `sure`.
 use Rattle.std.specs.Prelude.{◌≡◌, ℕ, List, [], ◌∷◌, ◌++◌, map, nat_lt, if◌then◌else◌, codes}
 use Rattle.std.specs.List.{enumerate_from}
-use Rattle.dover_model.specs.Common.{Fraction, Declaration, most_value, in_lines, with_numbers, is_heavy, Stream}
-use Rattle.dover_model.specs.Common.{stream_at, is_spread}
+use Rattle.dover_model.specs.Common.{Fraction, Declaration, most_value, in_lines, with_numbers, is_heavy}
+use Rattle.task_laws.specs.Sure.{Stream}
+use Rattle.task_laws.specs.Sure.{stream_at, is_spread}
 use Rattle.root_compare.specs.Least.{least_heavy}
 use Rattle.dover_port.specs.declared.status.Status.{Status}
 use Rattle.dover_port.specs.declared.status.Status.TheVariants.{Done}

@@ -2,8 +2,10 @@
 use Rattle.std.specs.Prelude.{◌≡◌, ◌⊎◌, ◌==◌, ◌||◌, ◌*◌, ◌&&◌, ℕ, List, Bool, true, not, map, nat_le, if◌then◌else◌}
 use Rattle.std.specs.Prelude.{set}
 use Rattle.std.specs.List.{list_all, sum_by, enumerate_from}
-use Rattle.dover_model.specs.Common.{Fraction, is_heavy, Stream, stream_at, most_crossing, most_beside, most_fitting}
-use Rattle.dover_model.specs.Common.{is_spread, by_density, IsByDeadline}
+use Rattle.dover_model.specs.Common.{Fraction, is_heavy}
+use Rattle.task_laws.specs.Sure.{Stream, stream_at, most_crossing, most_beside, most_fitting}
+use Rattle.task_laws.specs.Sure.{is_spread}
+use Rattle.dover_model.specs.Common.{by_density, IsByDeadline}
 use Rattle.dover_model.specs.declared.events.Version.{Version}
 use Rattle.task_words.specs.declared.tasks.task.PeriodicTask.{PeriodicTask}
 

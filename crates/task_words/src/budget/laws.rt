@@ -2,7 +2,8 @@
 ghost use Rattle.std.specs.Prelude.{◌≡◌, ◌≤◌, ◌<◌, ℕ, List, length, true};
 ghost use Rattle.dover_model.specs.declared.events.Task.{Task};
 ghost use Rattle.dover_model.specs.Common.{need, Instance, IsValid, JobFacts, end_state, ran, numbered, IsMember};
-ghost use Rattle.dover_model.specs.Common.{is_done, most_changes, useful};
+ghost use Rattle.dover_model.specs.Common.{is_done};
+ghost use Rattle.task_laws.specs.Switches.{most_changes, useful};
 ghost use Rattle.task_words.specs.budget.Budgets.{AreOfTasks, budgeted, most_gets, task_at};
 ghost use Rattle.task_words.specs.declared.tasks.task.PeriodicTask.{PeriodicTask};
 

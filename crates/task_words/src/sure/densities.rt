@@ -1,6 +1,7 @@
 //! The least dense tasks, and whether a task of another value would be within the ratio of all others.
 ghost use Rattle.std.specs.Prelude.{◌≡◌, ◌<◌, ◌≤◌, ◌*◌, List, false, get_or, length, true};
-ghost use Rattle.dover_model.specs.Common.{most_value, Stream};
+ghost use Rattle.dover_model.specs.Common.{most_value};
+ghost use Rattle.task_laws.specs.Sure.{Stream};
 ghost use Rattle.task_words.specs.tasks.Merging.{blank_task};
 ghost use Rattle.task_words.specs.sure.Kept.{AreSmall, AreSparse, IsSparsest};
 ghost use Rattle.task_words.specs.sure.Streams.{stays_within, streams_of};

@@ -1,8 +1,9 @@
 //! What `sure` promises, the contract of a function that does nothing.
 ghost use Rattle.std.specs.Prelude.{◌≡◌, ◌≤◌, ◌<◌, ◌↔◌, ℕ, List, length, true};
 ghost use Rattle.dover_model.specs.Common.{Fraction, IsRatio, Instance, IsValid, JobFacts, most_value, numbered};
-ghost use Rattle.dover_model.specs.Common.{IsMember, AreOfStreams, IsCompleted, IsOfStream, Stream, is_spread};
-ghost use Rattle.dover_model.specs.Common.{stream_at};
+ghost use Rattle.dover_model.specs.Common.{IsMember};
+ghost use Rattle.task_laws.specs.Sure.{AreOfStreams, IsCompleted, IsOfStream, Stream, is_spread};
+ghost use Rattle.task_laws.specs.Sure.{stream_at};
 ghost use Rattle.root_compare.specs.Least.{least_heavy};
 ghost use Rattle.dover_model.specs.declared.events.Version.{Version};
 ghost use Rattle.task_words.specs.sure.Streams.{HoldsIn, is_sure, most_against, with_value};

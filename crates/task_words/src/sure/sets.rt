@@ -1,6 +1,7 @@
 //! Sets of jobs of other tasks whose work fits the greatest span among them.
 ghost use Rattle.std.specs.Prelude.{◌≡◌, ◌<◌, ◌≤◌, ◌*◌, ◌-◌, ◌+◌, length};
-ghost use Rattle.dover_model.specs.Common.{most_value, most_work, best_of, most_fitting};
+ghost use Rattle.dover_model.specs.Common.{most_value, most_work};
+ghost use Rattle.task_laws.specs.Sure.{best_of, most_fitting};
 ghost use Rattle.task_words.specs.sure.Kept.{AreSmall, copies, left_from};
 ghost use Rattle.task_words.specs.sure.Streams.{count_beside, streams_of};
 

@@ -1,6 +1,6 @@
 //! How many jobs of all tasks can cross one tick, and what they are worth.
 ghost use Rattle.std.specs.Prelude.{◌≡◌, ◌<◌, ◌≤◌, ◌*◌, ◌-◌, ◌+◌, length};
-ghost use Rattle.dover_model.specs.Sure.{most_beside, most_crossing};
+ghost use Rattle.task_laws.specs.Sure.{most_beside, most_crossing};
 ghost use Rattle.task_words.specs.sure.Kept.{AreSmall, AreSums};
 ghost use Rattle.task_words.specs.sure.Streams.{count_beside, stream_of, streams_of};
 

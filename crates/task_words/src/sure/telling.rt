@@ -1,6 +1,7 @@
 //! What is told of a task.
 ghost use Rattle.std.specs.Prelude.{◌≡◌, ◌<◌, ◌≤◌, length, true};
-ghost use Rattle.dover_model.specs.Common.{most_value, is_spread, rules_with};
+ghost use Rattle.dover_model.specs.Common.{most_value, rules_with};
+ghost use Rattle.task_laws.specs.Sure.{is_spread};
 ghost use Rattle.root_compare.specs.Least.{least_heavy};
 ghost use Rattle.task_words.specs.sure.Kept.{AreSmall, AreSparse, AreSums, told_line};
 ghost use Rattle.task_words.specs.sure.Lines.{raise_line, sure_line};

@@ -2,7 +2,7 @@ use Rattle.std.proofs.Common.{◌≡◌, ◌≤◌, ◌<◌, ◌*◌, ◌⊎◌,
 use Rattle.std.proofs.lemmas.Nat.{mul-le}
 use Rattle.std.proofs.lemmas.List.{length-map}
 use Rattle.std.proofs.lemmas.Bool.{cases_lt}
-use Rattle.dover_model.specs.Sure.{Stream, stream_at}
+use Rattle.task_laws.specs.Sure.{Stream, stream_at}
 use Rattle.dover_model.proofs.valid.JobLimits.{ratio_limits}
 use Rattle.task_words.specs.sure.Kept.{AreSmall, IsSparsest, IsSmall}
 use Rattle.task_words.specs.declared.tasks.task.PeriodicTask.{PeriodicTask}

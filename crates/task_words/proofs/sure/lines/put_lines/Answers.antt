@@ -1,6 +1,7 @@
 use Rattle.std.proofs.Common.{◌∙◌, ◌++◌, ◌∷◌, [], refl, subst, arith}
 use Rattle.std.proofs.lemmas.List.{length-map}
-use Rattle.dover_model.specs.Common.{blank_stream, rules_with}
+use Rattle.task_laws.specs.Sure.{blank_stream}
+use Rattle.dover_model.specs.Common.{rules_with}
 use Rattle.dover_port.proofs.Through.{passes_nothing, passes_then}
 use Rattle.dover_port.specs.Moves.{CutsShort, Passes, PutsThrough}
 use Rattle.dialogue.proofs.Putting.{puts_behind, puts_cut}

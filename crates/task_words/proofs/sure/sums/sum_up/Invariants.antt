@@ -1,5 +1,5 @@
 use Rattle.std.proofs.Common.{◌≡◌, ◌≤◌, ◌*◌, take, sum_by}
-use Rattle.dover_model.specs.Sure.{most_crossing}
+use Rattle.task_laws.specs.Sure.{most_crossing}
 use Rattle.task_words.specs.sure.Streams.{stream_of}
 use Rattle.task_words.proofs.sure.sums.sum_up.Given as goal
 

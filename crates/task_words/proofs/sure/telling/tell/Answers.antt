@@ -1,6 +1,7 @@
 use Rattle.std.proofs.Common.{◌∙◌, get_or, sym, ap, arith}
 use Rattle.std.proofs.lemmas.List.{length-map}
-use Rattle.dover_model.specs.Common.{is_heavy, Stream, is_spread, rules_with}
+use Rattle.dover_model.specs.Common.{is_heavy, rules_with}
+use Rattle.task_laws.specs.Sure.{Stream, is_spread}
 use Rattle.root_compare.specs.Least.{least_heavy}
 use Rattle.task_words.specs.tasks.Merging.{blank_task}
 use Rattle.task_words.specs.sure.Lines.{raise_line}

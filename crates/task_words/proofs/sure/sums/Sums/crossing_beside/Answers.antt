@@ -1,6 +1,6 @@
 use Rattle.std.proofs.Common.{◌≡◌, ◌<◌, ◌+◌, length, ap, sym, ◌∙◌, arith, sum_by}
 use Rattle.std.proofs.lemmas.List.{length-map}
-use Rattle.dover_model.specs.Sure.{most_crossing, stream_at}
+use Rattle.task_laws.specs.Sure.{most_crossing, stream_at}
 use Rattle.task_words.specs.sure.Streams.{count_beside, stream_of, streams_of}
 use Rattle.task_words.proofs.sure.Beside.{sum_all}
 use Rattle.task_words.proofs.sure.Small.{small_there, stream_there}

@@ -1,6 +1,6 @@
 use Rattle.std.proofs.Common.{◌≡◌, ◌<◌, ◌+◌, ◌*◌, length, ap, sym, ◌∙◌, get_or, arith, sum_by}
 use Rattle.std.proofs.lemmas.List.{length-map}
-use Rattle.dover_model.specs.Sure.{Stream, most_crossing, most_beside, stream_at}
+use Rattle.task_laws.specs.Sure.{Stream, most_crossing, most_beside, stream_at}
 use Rattle.task_words.specs.tasks.Merging.{blank_task}
 use Rattle.task_words.specs.sure.Streams.{stream_of, streams_of}
 use Rattle.task_words.proofs.sure.Beside.{sum_all}

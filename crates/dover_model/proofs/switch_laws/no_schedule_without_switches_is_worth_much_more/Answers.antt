@@ -1,5 +1,0 @@
-use Rattle.dover_model.proofs.bound.SlowerLaws.{slower}
-use Rattle.dover_model.proofs.switch_laws.no_schedule_without_switches_is_worth_much_more.Goals as goal
-
-pub returns : goal.returns
-returns c = λ J e works s valid some most. slower J valid e works some most s

@@ -1,0 +1,71 @@
+//! Laws of what the jobs of tasks ask for in a window, of whether a deadline can ever be missed, and of when an
+//! overload is over.
+ghost use Rattle.std.specs.Prelude.{◌≡◌, ◌≤◌, ◌<◌, ◌-◌, ◌*◌, ◌+◌, ℕ, List, false, map, length};
+ghost use Rattle.std.specs.List.{sum_by};
+ghost use Rattle.dover_model.specs.Common.{Instance, IsValid, IsOverfull, Each, run, completed_value};
+ghost use Rattle.dover_model.specs.Common.{takes_or_abandons, total_value, work_inside, Meets, Rules, after, JobFacts};
+ghost use Rattle.task_laws.specs.Demand.{TaskFacts, demand, AskNoMore, AreMet, AreShares, soon, all_soon};
+ghost use Rattle.task_laws.specs.Switches.{AreSpaced, AreOfTask};
+ghost use Rattle.task_laws.specs.Recovery.{work_due_behind, RestsWithin};
+
+/// Where no window has more work in it than ticks, some schedule serves all jobs, and the run loses none.
+pub fn where_no_window_is_overfull_none_is_lost()
+    ensures meets { (J : Instance) → IsValid J → ((a b w : ℕ) → IsOverfull J.jobs a b w → ⊥) → Meets J }
+    ensures none_lost { (J : Instance) → IsValid J → ((a b w : ℕ) → IsOverfull J.jobs a b w → ⊥)
+        → Each (λ x. takes_or_abandons x.move ≡ false) (run J) }
+    ensures all_value { (J : Instance) → IsValid J → ((a b w : ℕ) → IsOverfull J.jobs a b w → ⊥)
+        → completed_value J ≡ total_value J.jobs }
+{}
+
+/// The jobs of tasks ask in a window for no more than their demand. So where that is never more than the window has,
+/// none of these jobs is lost, whenever they come.
+pub fn tasks_that_are_met_lose_nothing()
+    ensures inside { (tasks : List TaskFacts) (of : ℕ → ℕ) (J : Instance) (a b : ℕ) → AskNoMore tasks of J → a ≤ b
+        → work_inside J.jobs a b ≤ demand tasks (b - a) }
+    ensures meets { (tasks : List TaskFacts) (of : ℕ → ℕ) (J : Instance) → IsValid J → AskNoMore tasks of J
+        → AreMet tasks → Meets J }
+    ensures none_lost { (tasks : List TaskFacts) (of : ℕ → ℕ) (J : Instance) → IsValid J → AskNoMore tasks of J
+        → AreMet tasks → Each (λ x. takes_or_abandons x.move ≡ false) (run J) }
+    ensures all_value { (tasks : List TaskFacts) (of : ℕ → ℕ) (J : Instance) → IsValid J → AskNoMore tasks of J
+        → AreMet tasks → completed_value J ≡ total_value J.jobs }
+{}
+
+/// Few windows tell of all: those below a horizon, which shares of the processor give; or those up to a common multiple
+/// of the distances and the last deadline, where the work that comes in that time is no more than it. A window whose
+/// demand is no more than it has tells of all between its demand and itself.
+pub fn few_windows_tell_of_all()
+    ensures horizon { (tasks : List TaskFacts) (scale horizon : ℕ) (share : TaskFacts → ℕ)
+        → AreShares tasks scale share
+        → sum_by (λ task. share task * (task.distance - task.due)) tasks ≤ (scale - sum_by share tasks) * horizon
+        → ((length : ℕ) → length < horizon → demand tasks length ≤ length) → AreMet tasks }
+    ensures period { (tasks : List TaskFacts) (period last : ℕ) (times : TaskFacts → ℕ) → 1 ≤ period
+        → Each (λ task. 1 ≤ task.distance) tasks → Each (λ task. period ≡ times task * task.distance) tasks
+        → Each (λ task. task.due ≤ last) tasks → sum_by (λ task. task.work * times task) tasks ≤ period
+        → ((length : ℕ) → length ≤ last + period → demand tasks length ≤ length) → AreMet tasks }
+    ensures below { (tasks : List TaskFacts) (long length : ℕ) → Each (λ task. 1 ≤ task.distance) tasks
+        → demand tasks long ≤ length → length ≤ long → demand tasks length ≤ length }
+{}
+
+/// Where a window has less than the demand, the tasks' jobs that come as soon as they may be, all of them at once at
+/// first, ask for all of it, and no schedule serves them.
+pub fn a_demand_above_a_window_cannot_be_met()
+    ensures apart { (task : TaskFacts) (from count : ℕ)
+        → AreSpaced task.distance (map (λ j. j.release) (soon task from count)) }
+    ensures asked { (tasks : List TaskFacts) (length : ℕ) → work_inside (all_soon tasks length) 0 length
+        ≡ demand tasks length }
+    ensures unmet { (tasks : List TaskFacts) (length : ℕ) (rules : Rules) → length < demand tasks length
+        → Meets (record { rules = rules; jobs = all_soon tasks length }) → ⊥ }
+{}
+
+/// An overload ends: where from one tick on there is time, up to a second one, for all jobs that are due behind it and
+/// released before a third one, then by the third one the run has come to rest. What was lost, or done early, only
+/// makes that sooner. Of one task's jobs, each due so long after its release, few come then, and so little is their
+/// work.
+pub fn the_processor_comes_to_rest()
+    ensures rests { (J : Instance) (from due until : ℕ) → IsValid J → from ≤ due
+        → due + sum_by (work_due_behind due until) J.jobs ≤ until → RestsWithin J from until }
+    ensures of_a_task { (distance after work due until : ℕ) (jobs : List (ℕ × JobFacts)) → 1 ≤ distance
+        → AreOfTask distance after jobs → Each (λ n_j. n_j.1.work ≤ work) jobs
+        → distance * sum_by (λ n_j. work_due_behind due until n_j.1) jobs
+        ≤ work * ((until - (due + 1 - after)) + (distance - 1)) }
+{}
