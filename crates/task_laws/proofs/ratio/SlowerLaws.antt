@@ -16,7 +16,7 @@ use Rattle.dover_model.proofs.bound.Augmented.{IsAsked, Counted, counted, served
 use Rattle.dover_model.proofs.bound.BoundLaws.{least_modest, seen_books, some_least}
 use Rattle.dover_model.proofs.valid.ValidParts.{valid_parts}
 use Rattle.dover_model.proofs.valid.JobLimits.{job_limits}
-use Rattle.std.proofs.Common.{◌<◌, ◌-◌, nat_le, IsTrue, Option, Some, None, sum_by, le-leb}
+use Rattle.std.proofs.Common.{◌-◌, nat_le, IsTrue, Option, Some, None, sum_by, le-leb}
 use Rattle.std.proofs.lemmas.Nat.{mul-le}
 use Rattle.dover_model.specs.declared.factors.Factor.{Factor}
 use Rattle.dover_model.specs.Common.{Row, completed_in, IsPaid, IsPaidBy, IsExcess, IsExcessBy}
