@@ -1,22 +1,21 @@
 -- The bound over any books of a run: intervals with their jobs, each job in one place, each tick of an interval paid
 -- for; also where a schedule needs less for a job than the job asks for, which is at most 1 + e times as much.
 use Rattle.std.proofs.Common.{◌≡◌, ℕ, ◌+◌, ◌-◌, ◌*◌, ◌≤◌, ◌<◌, ◌⊎◌, inl, inr, List, [], ◌∷◌, ◌++◌, length, refl, sym}
-use Rattle.std.proofs.Common.{ap, ◌∙◌, subst, Bool, true, false, cond, eqb, arith, IsTrue, nat_le, nat_lt, Option}
-use Rattle.std.proofs.Common.{Some, None, sum_by, filter, le-leb, leb-true}
+use Rattle.std.proofs.Common.{ap, ◌∙◌, subst, Bool, true, false, cond, eqb, arith, nat_le, nat_lt}
+use Rattle.std.proofs.Common.{sum_by, filter, leb-true}
 use Rattle.std.proofs.lemmas.Bool.{cases_lt}
-use Rattle.std.proofs.lemmas.Nat.{mul-le}
 use Rattle.std.proofs.Math.Nat.{mul-sub, mul-le-mul_left}
 use Rattle.std.proofs.lemmas.List.Sums.{sum_by-cons, sum_by-append}
-use Rattle.dover_model.specs.Common.{Fraction, Factor, IsWithin, Row, IsRow, TakenIn, IsDense}
-use Rattle.dover_model.specs.Common.{completed_in, row_sum, Job, IsPaid, IsPaidBy, IsExcess, IsExcessBy, IsMember, Each}
+use Rattle.dover_model.specs.Common.{Fraction, IsWithin, Row, IsRow, TakenIn, IsDense}
+use Rattle.dover_model.specs.Common.{completed_in, row_sum, Job, IsPaid, IsExcess, IsMember, Each}
 use Rattle.dover_model.specs.Common.{ticks_given, is_served, job_value}
 use Rattle.dover_model.specs.Fraction.{fraction}
 use Rattle.dover_model.specs.Books.{GoneIn}
 use Rattle.dover_model.proofs.lists.Members.{each_cons, sum_le, sum_plus, sum_filter, term_le_sum, member_filter}
 use Rattle.dover_model.proofs.lists.Members.{cond_le, sum_zero}
-use Rattle.dover_model.proofs.bound.Calculus.{Below, cancel, below_add, below_mono, displaced_below, excess_below}
-use Rattle.dover_model.proofs.bound.Calculus.{regular_below, not_heavy, excess_zero, excess_add, paid_sum}
-use Rattle.dover_model.proofs.bound.Calculus.{factor_within, within_parts}
+use Rattle.dover_model.proofs.bound.Calculus.{cancel}
+use Rattle.dover_model.proofs.bound.Calculus.{not_heavy, excess_zero, excess_add, paid_sum}
+use Rattle.dover_model.proofs.bound.Calculus.{within_parts}
 use Rattle.dover_model.proofs.bound.Counting.{one, one_none, one_low, share_of, given_share, NamesOnce}
 use Rattle.dover_model.proofs.bound.Books.{AreBooks, scaled_sum, Without, without, greatest, ticks_worth, early, late}
 use Rattle.dover_model.proofs.bound.Books.{two_parts, late_share, row_names, completed_parts, early_most}
