@@ -216,9 +216,10 @@ impl Intake {
     /// # Errors
     ///
     /// The first faulty line, numbered from 1, with its cause. After a fault every line is answered by that same
-    /// fault. From version Two on a job that isn't admitted is no fault, and in version Three neither is one that
-    /// comes late: it is answered as `Fed::Refused`. Nor is a done line whose finish isn't right, nor a job for which
-    /// there is no room among those that are ready: it is offered, and the caller, who has the run, doesn't accept it.
+    /// fault. From version Two on a job that isn't admitted is no fault, and from version Three on neither is one
+    /// that comes late: it is answered as `Fed::Refused`. Nor is a done line whose finish isn't right, nor a job for
+    /// which there is no room among those that are ready: it is offered, and the caller, who has the run, doesn't
+    /// accept it.
     #[inline(always)]
     pub fn line(&mut self, line: &[u8]) -> Result<Fed, FeedFault>
         requires { has_ended self.old ≡ false }

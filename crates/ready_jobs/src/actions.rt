@@ -12,7 +12,7 @@ use dover_model::Event;
 pub enum Action {
     /// The first held job runs on.
     Resume { number: u32 },
-    /// The first waiting job by deadline runs.
+    /// The first waiting job runs: that is due first, or in a pressed state the densest.
     Start { number: u32 },
     /// The fresh job runs.
     Begin { number: u32 },

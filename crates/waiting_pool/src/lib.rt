@@ -1,4 +1,4 @@
-//! The jobs that wait, with the first by deadline and the first by latest start at hand.
+//! The jobs that wait, with the first by deadline, the first by latest start and, in version Four, the densest at hand.
 #![tactic(auto)]
 
 mod pool;
