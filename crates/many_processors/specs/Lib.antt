@@ -1,0 +1,6 @@
+pub mod Schedules
+pub mod Books
+pub mod State
+pub mod Step
+pub mod Run
+pub mod Sound
