@@ -4,3 +4,5 @@ pub mod State
 pub mod Step
 pub mod Run
 pub mod Sound
+pub mod Ticks
+pub mod Observed

@@ -1,13 +1,14 @@
 -- Runs on several processors: the steps of the machine from the opening state on.
 use Rattle.std.specs.Prelude.{◌≡◌, ℕ, zero, suc, ◌+◌, ◌*◌, List, [], ◌∷◌, length, Bool, true, false, Option, Some, None, map}
-use Rattle.std.specs.Prelude.{filter_map, fold}
+use Rattle.std.specs.Prelude.{filter, filter_map, fold}
 use Rattle.std.specs.List.{list_any}
 use Rattle.dover_model.specs.declared.events.Event.{Event}
 use Rattle.dover_model.specs.declared.events.Event.TheVariants.{End}
 use Rattle.dover_model.specs.JobFacts.{JobFacts}
 use Rattle.dover_model.specs.Instance.{Instance, last_deadline, Rules}
 use Rattle.dover_model.specs.Run.{value_of_end}
-use Rattle.many_processors.specs.State.{State, opening, tasks_of, served}
+use Rattle.dover_model.specs.State.{is_running}
+use Rattle.many_processors.specs.State.{State, opening, tasks_of}
 use Rattle.many_processors.specs.Step.{Move, Prints, Waits, Ticks, step, after}
 
 -- a step, with the state that it is taken from
@@ -64,13 +65,13 @@ abbrev pub completed_value : ℕ → Instance → ℕ
 completed_value processors J = fold (λ value e. value_of_end e value) 0 (printed processors J)
 
 -- the numbers of the jobs that run
-abbrev pub numbers_served : State → List ℕ
-numbers_served s = map (λ t. t.number) (tasks_of (served s))
+abbrev pub numbers_running : State → List ℕ
+numbers_running s = map (λ t. t.number) (filter is_running (tasks_of s.jobs))
 
 -- what a silent tick is given to
 abbrev pub tick_of : Step → Option (List ℕ)
 tick_of step = elim step.move
-    [ Prints q e ↦ None | Waits n ↦ None | Ticks ↦ Some (numbers_served step.before) ]
+    [ Prints q e ↦ None | Waits n ↦ None | Ticks ↦ Some (numbers_running step.before) ]
 
 -- the schedule that the run amounts to
 abbrev pub ran : ℕ → Instance → List (List ℕ)

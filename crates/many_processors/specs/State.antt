@@ -2,11 +2,10 @@
 -- processor.
 use Rattle.std.specs.Prelude.{ℕ, List, map, Bool, false, ◌&&◌, ◌==◌, not}
 use Rattle.std.specs.Prelude.{if◌then◌else◌}
-use Rattle.std.specs.List.{filter}
 use Rattle.dover_model.specs.declared.events.Role.TheVariants.{Done}
 use Rattle.dover_model.specs.declared.events.Task.{Task}
 use Rattle.dover_model.specs.JobFacts.{JobFacts}
-use Rattle.dover_model.specs.State.{is_running, is_privileged, to_come}
+use Rattle.dover_model.specs.State.{is_privileged, to_come}
 use Rattle.dover_model.specs.State as single
 use Rattle.dover_model.specs.Step.{with_role}
 
@@ -44,11 +43,3 @@ seen_by q p = if is_elsewhere q p then with_role p.task Done else p.task
 -- the state as processor q sees it: one of the machine on one processor
 abbrev pub seen_from : ℕ → State → single.State
 seen_from q s = record { clock = s.clock; tasks = map (seen_by q) s.jobs; pressed = s.pressed }
-
--- the job runs
-abbrev pub is_served : Placed → Bool
-is_served p = is_running p.task
-
--- the jobs that run
-abbrev pub served : State → List Placed
-served s = filter is_served s.jobs

@@ -13,11 +13,11 @@ use Rattle.dover_model.specs.declared.events.Task.{Task}
 use Rattle.dover_model.specs.Fraction.{Fraction}
 use Rattle.dover_model.specs.Finishes.{Finish, has_come_to}
 use Rattle.dover_model.specs.Instance.{Rules}
-use Rattle.dover_model.specs.State.{is_done, is_over, is_privileged, is_ready_behind, left, value_sum}
+use Rattle.dover_model.specs.State.{is_done, is_over, is_privileged, is_ready_behind, is_running, left, value_sum}
 use Rattle.dover_model.specs.Orders.{first}
 use Rattle.dover_model.specs.Step.{View, with_role}
 use Rattle.dover_model.specs.Step as single
-use Rattle.many_processors.specs.State.{Placed, State, tasks_of, seen_from, is_served}
+use Rattle.many_processors.specs.State.{Placed, State, tasks_of, seen_from}
 
 -- what a step is: a printed event on a processor (0 where it is on none), a silent wait of the fresh job of this number,
 -- or a silent tick
@@ -214,7 +214,7 @@ with_tick t = record { number = t.number; job = t.job; role = t.role; had = t.ha
 
 -- where it runs
 abbrev pub ticked : Placed → Placed
-ticked p = if is_served p then record { task = with_tick p.task; owner = p.owner } else p
+ticked p = if is_running p.task then record { task = with_tick p.task; owner = p.owner } else p
 
 -- whether the state is pressed after a printed event that leaves these tasks: from the abandonment of a job to the next
 -- completion that leaves no job that waits or is held
