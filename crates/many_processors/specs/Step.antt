@@ -167,9 +167,9 @@ alarm k q = placed q (single.alarm k q.view q.view.running q.view.must_start)
 abbrev pub ending : State → Option Move
 ending s = then_some (list_all is_over (tasks_of s.jobs)) (Prints 0 (End (value_sum (filter is_done (tasks_of s.jobs)))))
 
--- the step of a state, where the processors see this
-abbrev pub step_of : Rules → State → List Seen → Move
-step_of rules s all =
+-- the first of cases 1 to 6 that applies, where the processors see this, or what else is done
+abbrev pub urgent_or : Rules → List Seen → Move → Move
+urgent_or rules all other =
     first_some completion all
     or_else first_some resumption all
     or_else for_one dispatch (free_one all)
@@ -177,12 +177,15 @@ step_of rules s all =
     or_else for_one decision (deciding all)
     or_else for_one arrival (front all)
     or_else for_one (alarm rules.ratio) (least_valued all)
-    or_else ending s
-    or_else Ticks
+    or_else other
 
 -- the step of a state, on so many processors
 abbrev pub step : ℕ → Rules → State → Move
-step processors rules s = step_of rules s (all_seen processors rules.version s)
+step processors rules s = urgent_or rules (all_seen processors rules.version s) (ending s or_else Ticks)
+
+-- the step where further jobs may be fed
+abbrev pub open_step : ℕ → Rules → State → Move
+open_step processors rules s = urgent_or rules (all_seen processors rules.version s) Ticks
 
 -- the job in another role
 abbrev pub in_role : Placed → Role → Placed

@@ -41,6 +41,7 @@ use Rattle.many_processors.proofs.bound.Sharing.{some_pass}
 use Rattle.many_processors.proofs.steps.Placing.{seen_member, seen_own, own_seen, off_seen, all_left}
 use Rattle.many_processors.proofs.steps.Kept.{had_most, seen_fits}
 use Rattle.many_processors.proofs.steps.Stepping.{real, same_job}
+use Rattle.many_processors.proofs.runs.EachStep.{is_tick, no_tick}
 use Rattle.many_processors.proofs.runs.Outcomes.{ran_after}
 use Rattle.many_processors.proofs.steps.Turns.{which, running_job, all_quiet, of_tasks}
 use Rattle.many_processors.proofs.books.Booked.{own_sum, value_of, number_and_job, Taker, comes_to, Booked, Open, shut, is_excused}
@@ -451,7 +452,7 @@ module _ (rules : Rules) (some_q : 1 ≤ rules.ratio.q) (above : rules.ratio.q �
               (subst (λ (t : Task). is_heavy rules.ratio t.job.value (comes_to booked.way s.jobs j) ≡ true) x.2 e)))
 
   -- each case keeps the books
-  case_booked : (m : Move) → StepCase rules s (all_seen processors rules.version s) m
+  case_booked : (m : Move) → StepCase true rules s (all_seen processors rules.version s) m
       → Booked rules.ratio v w processors (ran_after ran s m) (after s m)
   case_booked m (cases.Completed q member t is_served finished) =
       let i = which processors J valid some rules s keeps q member in
@@ -467,18 +468,8 @@ module _ (rules : Rules) (some_q : 1 ≤ rules.ratio.q) (above : rules.ratio.q �
       (all_left processors s rules.version keeps.sound keeps.placed going) q.processor i.1 rules refl m
       (subst (λ r. cases.Acts rules.ratio r false m) i.0 acts)) (not_tick q m acts) where
         not_tick : (q : Seen) → (m : Move) → cases.Acts rules.ratio q false m → m ≡ Ticks → ⊥
-        not_tick q m acts e = by_case acts.move acts.case (sym acts.is ∙ e) where
-          by_case : (n : single.Move) → Case rules.ratio q.view (single.Prints (End 0)) n → on q.processor n ≡ Ticks → ⊥
-          by_case n (Completes r running done) f = cc
-          by_case n (Resumes p none held) f = cc
-          by_case n (Starts o none no_held waits) f = cc
-          by_case n (Begins y settles fresh) f = cc
-          by_case n (Preempts r y settles fresh fits) f = cc
-          by_case n (Stays r y settles fresh tight) f = cc
-          by_case n (Arrives ro c settles stale coming now) f = cc
-          by_case n (Takes r x settles stale ahead late heavy) f = cc
-          by_case n (Abandons r x settles stale ahead late light) f = cc
-          by_case n (Rests ro settles stale ahead quiet) f = cc
+        not_tick q m acts e = never (sym (no_tick rules.ratio q.view q.processor acts.move acts.case)
+            ∙ sym (ap is_tick acts.is) ∙ ap is_tick e)
 
         by_move : (m : Move) → Booked rules.ratio v w processors ran (after s m) → (m ≡ Ticks → ⊥)
             → Booked rules.ratio v w processors (ran_after ran s m) (after s m)
@@ -493,14 +484,14 @@ module _ (rules : Rules) (some_q : 1 ≤ rules.ratio.q) (above : rules.ratio.q �
         by_move (Prints i e) b is = b
         by_move (Waits n) b is = b
         by_move Ticks b is = absurd (let f : Ticks ≡ Prints q.processor (Abandon q.view.clock it.job.number) = is in cc)
-  case_booked m (cases.Ended over) = same_booked rules.ratio v w processors ran s booked 0
+  case_booked m (cases.Ended may over) = same_booked rules.ratio v w processors ran s booked 0
       (value_sum (filter is_done (tasks_of s.jobs))) _
-  case_booked m (cases.Rested quiet) = ticks_booked rules.ratio v w processors ran J rules s booked keeps
+  case_booked m (cases.Rested quiet unended) = ticks_booked rules.ratio v w processors ran J rules s booked keeps
       (all_left processors s rules.version keeps.sound keeps.placed quiet.going)
       (one_job rules.ratio some_q above v w processors some J valid modest_jobs ran s keeps booked) quiet
       (all_quiet processors J valid some rules s keeps quiet) some
 
   -- so does every step
-  pub step_booked : (m : Move) → StepCase rules s (all_seen processors rules.version s) m
+  pub step_booked : (m : Move) → StepCase true rules s (all_seen processors rules.version s) m
       → Booked rules.ratio v w processors (ran_after ran s m) (after s m)
   step_booked = case_booked

@@ -39,7 +39,7 @@ use Rattle.many_processors.proofs.steps.Cases as cases
 use Rattle.many_processors.proofs.steps.Cases.{StepCase, step_case, IsQuiet, is_finished}
 use Rattle.many_processors.proofs.steps.Kept.{job_released, had_most}
 use Rattle.many_processors.proofs.steps.Placing.{seen_same, all_left}
-use Rattle.many_processors.proofs.steps.Stepping.{event_task, event_done, same_job}
+use Rattle.many_processors.proofs.steps.Stepping.{event_task, role_stays, gives_done, same_job}
 use Rattle.many_processors.proofs.steps.Turns.{which, running_job, of_tasks, opening_kept}
 use Rattle.many_processors.proofs.runs.EachStep.{each_step, is_tick, no_tick, no_completion}
 use Rattle.many_processors.proofs.runs.Outcomes.{ran_after, Outcome, outcome}
@@ -169,7 +169,8 @@ module _ (processors : ℕ) (some : 1 ≤ processors) (J : Instance) (valid : Is
     each = each_event q e;
     done = on_map (placed_after q e) (λ p. p.task.role ≡ Done → is_finished J.rules.finishes p.task ≡ true) s.jobs
         (λ p member is. ap (is_finished J.rules.finishes) (event_task q e p).1
-        ∙ gave.done p member (event_done q e p calm is));
+        ∙ gave.done p member (role_stays e p.task (placed_after q e p).task Done (event_task q e p)
+        (gives_done e p.task calm) is));
   }
 
   waits : (n : ℕ) → Gave J.rules.finishes past (after s (Waits n))
@@ -282,7 +283,7 @@ module _ (processors : ℕ) (some : 1 ≤ processors) (J : Instance) (valid : Is
   abbrev all : List Seen
   all = all_seen processors J.rules.version s
 
-  by_case : (m : Move) → StepCase J.rules s all m → Gave J.rules.finishes (ran_after past s m) (after s m)
+  by_case : (m : Move) → StepCase true J.rules s all m → Gave J.rules.finishes (ran_after past s m) (after s m)
   by_case m (cases.Completed q member t runs finished) =
       let i = which processors J valid some J.rules s keeps q member in
       let x = running_job processors J valid some J.rules s keeps q.processor t
@@ -296,8 +297,8 @@ module _ (processors : ℕ) (some : 1 ≤ processors) (J : Instance) (valid : Is
   by_case m (cases.Abandoned q member n acts it going light) =
       subst (λ (x : Move). Gave J.rules.finishes (ran_after past s x) (after s x)) (sym it.is)
       (printed q.processor (Abandon q.view.clock it.job.number) refl)
-  by_case m (cases.Ended over) = printed 0 (End (value_sum (filter is_done (tasks_of s.jobs)))) refl
-  by_case m (cases.Rested quiet) =
+  by_case m (cases.Ended may over) = printed 0 (End (value_sum (filter is_done (tasks_of s.jobs)))) refl
+  by_case m (cases.Rested quiet unended) =
       ticks (all_left processors s J.rules.version keeps.sound keeps.placed quiet.going)
 
 -- ---- the run

@@ -24,7 +24,7 @@ use Rattle.many_processors.proofs.books.TickSteps.{serves, sum_swap, running_cou
 use Rattle.many_processors.proofs.steps.Turns.{step_kept, opening_kept}
 
 -- so many processors
-count_all : (q more : ℕ) → sum_by (λ (j : ℕ). 1) (numbers_from q more) ≡ more
+pub count_all : (q more : ℕ) → sum_by (λ (j : ℕ). 1) (numbers_from q more) ≡ more
 count_all q zero = refl
 count_all q (suc more) = omega (
   arith,

@@ -106,7 +106,7 @@ module _ (processors : ℕ) (J : Instance) (s : State) (keeps : Keeps processors
   )
 
   -- one job has the number
-  number_count : (x : Placed) → IsMember x s.jobs → sum_by (λ p. one_if (eqb p.task.number x.task.number)) s.jobs ≡ 1
+  pub number_count : (x : Placed) → IsMember x s.jobs → sum_by (λ p. one_if (eqb p.task.number x.task.number)) s.jobs ≡ 1
   number_count x member = omega (
     arith,
     sum_at (λ p. one_if (eqb p.task.number x.task.number)) (λ p. 0) 0 s.jobs x (keeps.sound 0).numbered member
