@@ -1,0 +1,5 @@
+pub mod steps
+pub mod runs
+pub mod bound
+pub mod books
+pub mod rows

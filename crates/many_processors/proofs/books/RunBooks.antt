@@ -1,0 +1,314 @@
+-- The books of a run that ends, and its value against that of every schedule.
+use Rattle.std.proofs.Common.{◌≡◌, ℕ, ◌+◌, ◌*◌, ◌≤◌, ◌<◌, ◌⊎◌, inl, inr, List, [], ◌++◌, length, map}
+use Rattle.std.proofs.Common.{refl, sym, ap, ◌∙◌, subst, Bool, true, false, cond, arith, sum_by, nat_le, nat_lt}
+use Rattle.std.proofs.Common.{◌&&◌, ◌==◌, filter}
+use Rattle.std.specs.List.{list_all, enumerate_from}
+use Rattle.std.proofs.lemmas.Bool.{and_parts, cases_lt, le-ltb}
+use Rattle.std.proofs.lemmas.List.Sums.{sum_by-append}
+use Rattle.dover_model.specs.declared.events.Role.TheVariants.{Coming, Done, Gone}
+use Rattle.dover_model.specs.JobFacts.{JobFacts}
+use Rattle.dover_model.specs.Books.{Job, job_value, IsLeastDense}
+use Rattle.dover_model.specs.Bound.{IsWithin}
+use Rattle.dover_model.specs.Common.{Instance, IsValid, IsJob, is_privileged, is_done, is_over, IsMember, Each}
+use Rattle.dover_model.specs.Common.{value_sum, numbered, IsNumberedFrom, to_come}
+use Rattle.dover_model.proofs.bound.Booking.{is_gone}
+use Rattle.dover_model.proofs.bound.Booked.{IsModest}
+use Rattle.dover_model.proofs.bound.BoundLaws.{some_least, least_modest}
+use Rattle.dover_model.proofs.bound.Counting.{one}
+use Rattle.dover_model.proofs.runs.Serving.{named_once}
+use Rattle.dover_model.proofs.runs.Honest.{sum_tasks}
+use Rattle.dover_model.proofs.valid.ValidParts.{valid_parts}
+use Rattle.dover_model.proofs.valid.JobLimits.{ratio_limits, job_limits}
+use Rattle.dover_model.proofs.lists.Tests.{never}
+use Rattle.dover_model.proofs.lists.Members.{map_member, sum_same, sum_map, sum_plus, on_map, sum_filter, sum_zero}
+use Rattle.dover_model.proofs.lists.Members.{all_each, all_member, member_either}
+use Rattle.dover_model.proofs.steps.Roles.{passes, is_over_role}
+use Rattle.dover_model.proofs.steps.Kept.{come_coming}
+use Rattle.many_processors.specs.State.{Placed, State, tasks_of, seen_by, opening, unplaced}
+use Rattle.many_processors.specs.Step.{all_seen, numbers_from, step}
+use Rattle.many_processors.specs.Run.{run_from, run, enough, HasEnd, completed_value, ran}
+use Rattle.many_processors.specs.Schedules.{IsFor, worth}
+use Rattle.many_processors.specs.Sound.{Keeps}
+use Rattle.many_processors.specs.Books.{Interval, Over, completed_in, open_at, is_open, given_at, IsBusyIn, AreBooks}
+use Rattle.many_processors.proofs.steps.Seeing.{each_sees, numbers_below}
+use Rattle.many_processors.proofs.steps.Cases.{step_case}
+use Rattle.many_processors.proofs.steps.Beside.{numbers_stay}
+use Rattle.many_processors.proofs.steps.Placing.{seen_same}
+use Rattle.many_processors.proofs.steps.Turns.{opening_kept}
+use Rattle.many_processors.proofs.runs.Outcomes.{Outcome}
+use Rattle.many_processors.proofs.runs.Outcomes as outcomes
+use Rattle.many_processors.proofs.books.Booked.{Open, shut, number_and_job, WasBusy, Booked, is_light_on, fallen_value}
+use Rattle.many_processors.proofs.books.StepBooks.{step_booked}
+use Rattle.many_processors.proofs.bound.Bounding.{many_bound}
+
+module _ (v w processors : ℕ) (some : 1 ≤ processors) (J : Instance) (valid : IsValid J)
+    (modest_jobs : Each (IsModest J.rules.ratio v w) J.jobs) where
+  -- the limits of the ratio
+  some_q : 1 ≤ J.rules.ratio.q
+  some_q = (ratio_limits (valid_parts valid).ratio).least
+
+  above : J.rules.ratio.q ≤ J.rules.ratio.p
+  above = (ratio_limits (valid_parts valid).ratio).above_one
+
+  -- a run that ends comes to books
+  outcome : (more : ℕ) (s : State) (ran : List (List ℕ)) → Keeps processors J s
+      → Booked J.rules.ratio v w processors ran s → HasEnd (run_from processors J.rules more s)
+      → Outcome processors J (Booked J.rules.ratio v w processors) ran (run_from processors J.rules more s)
+  outcome = outcomes.outcome processors some J valid (Booked J.rules.ratio v w processors) (λ ran s keeps booked.
+      step_booked J.rules some_q above v w processors some J valid modest_jobs ran s keeps booked
+      (step processors J.rules s)
+      (step_case J.rules s (all_seen processors J.rules.version s) (each_sees processors J.rules.version s)))
+
+  -- ---- the books at the end
+
+  module _ (s : State) (ran : List (List ℕ)) (keeps : Keeps processors J s)
+      (booked : Booked J.rules.ratio v w processors ran s) (over : list_all is_over (tasks_of s.jobs) ≡ true)
+      (some_work : 1 ≤ w) where
+    -- each job is over
+    each_over : Each (λ p. is_over p.task ≡ true) s.jobs
+    each_over p member = all_each is_over (tasks_of s.jobs) over p.task (map_member (λ (u : Placed). u.task) s.jobs p member)
+
+    off : Each (λ p. is_privileged p.task ≡ false) s.jobs
+    off p member = by_role (is_over_role p.task (each_over p member)) where
+      by_role : (p.task.role ≡ Done) ⊎ (p.task.role ≡ Gone) → is_privileged p.task ≡ false
+      by_role (inl e) = passes is_privileged p.task Done false e refl
+      by_role (inr e) = passes is_privileged p.task Gone false e refl
+
+    low : (q : ℕ) → IsMember q (numbers_from 0 processors) → q < processors
+    low q member = omega (arith, (numbers_below q 0 processors member).1)
+
+    -- no interval is under way
+    is_shut : (q : ℕ) → q < processors → booked.way q ≡ shut
+    is_shut q less = by_lasts (booked.way q).lasts refl where
+      by_lasts : (b : Bool) → (booked.way q).lasts ≡ b → booked.way q ≡ shut
+      by_lasts false e = ((booked.under q less).none e).0
+      by_lasts true e =
+          let x = ((booked.under q less).some e).1 in
+          never (sym (off x.0 x.1) ∙ (and_parts (is_privileged x.0.task) (x.0.owner == q) x.2).0)
+
+    way_zero : (f : Open → ℕ) → f shut ≡ 0 → sum_by (λ q. f (booked.way q)) (numbers_from 0 processors) ≡ 0
+    way_zero f nothing = sum_zero (λ q. f (booked.way q)) (numbers_from 0 processors)
+        (λ q member. ap f (is_shut q (low q member)) ∙ nothing)
+
+    -- each job is done or gone
+    done_or_gone : (f : Job → ℕ) → sum_by (λ p. f (number_and_job p)) s.jobs
+        ≡ sum_by (λ p. cond (is_done p.task) (f (number_and_job p)) 0) s.jobs
+        + sum_by (λ p. cond (is_gone p.task) (f (number_and_job p)) 0) s.jobs
+    done_or_gone f = sum_same (λ p. f (number_and_job p))
+        (λ p. cond (is_done p.task) (f (number_and_job p)) 0 + cond (is_gone p.task) (f (number_and_job p)) 0) s.jobs
+        (λ p member. by_role p (is_over_role p.task (each_over p member)))
+        ∙ sum_plus (λ p. cond (is_done p.task) (f (number_and_job p)) 0)
+        (λ p. cond (is_gone p.task) (f (number_and_job p)) 0) s.jobs where
+          by_role : (p : Placed) → (p.task.role ≡ Done) ⊎ (p.task.role ≡ Gone) → f (number_and_job p)
+              ≡ cond (is_done p.task) (f (number_and_job p)) 0 + cond (is_gone p.task) (f (number_and_job p)) 0
+          by_role p (inl e) = omega (
+            arith,
+            ap (λ b. cond b (f (number_and_job p)) 0) (passes is_done p.task Done true e refl),
+            ap (λ b. cond b (f (number_and_job p)) 0) (passes is_gone p.task Done false e refl),
+          )
+          by_role p (inr e) = omega (
+            arith,
+            ap (λ b. cond b (f (number_and_job p)) 0) (passes is_done p.task Gone false e refl),
+            ap (λ b. cond b (f (number_and_job p)) 0) (passes is_gone p.task Gone true e refl),
+          )
+
+    -- the tasks are numbered
+    tasks_numbered : IsNumberedFrom 0 (tasks_of s.jobs)
+    tasks_numbered = numbers_stay (seen_by 0) (λ (p : Placed). p.task) 0 s.jobs
+        (λ p member. sym (seen_same 0 p).0) (keeps.sound 0).numbered
+
+    numbered_sum : (f : Job → ℕ) → sum_by f (numbered J) ≡ sum_by (λ p. f (number_and_job p)) s.jobs
+    numbered_sum f = ap (λ jobs. sum_by f (enumerate_from 0 jobs)) (sym keeps.jobs)
+        ∙ sum_tasks f 0 (tasks_of s.jobs) tasks_numbered
+        ∙ sum_map (λ (p : Placed). p.task) (λ t. f (t.number, t.job)) s.jobs
+
+    are_books : AreBooks J.rules.ratio v w processors (numbered J) ran
+    are_books = record {
+      some_q = some_q;
+      ratio = above;
+      some_work = some_work;
+      intervals = booked.closed;
+      in_order = booked.in_order;
+      regular = booked.regular;
+      taken = booked.taken;
+      gone = booked.gone;
+      lost = booked.lost ++ booked.missed;
+      each_once = λ f. omega (
+        arith,
+        numbered_sum f,
+        done_or_gone f,
+        booked.done_sum f,
+        booked.gone_sum f,
+        sum_by-append f booked.lost booked.missed,
+      );
+      names = λ n. named_once n 0 J.jobs;
+      regular_sum = omega (arith, booked.regular_sum, way_zero (λ o. o.regular) refl);
+      spare = sum_by job_value booked.lost;
+      taken_sum = booked.taken_sum;
+      lost_sum = omega (
+        arith,
+        booked.fallen_sum,
+        sum_by-append job_value booked.lost booked.missed,
+        way_zero (λ o. o.first) refl,
+      );
+      displaced = booked.paid;
+      covered = λ τ. by_cover τ (cases_lt τ s.clock);
+      busy = λ τ. by_busy τ (cases_lt τ s.clock);
+      ticks_paid = omega (
+        arith,
+        booked.ticks_paid,
+        ap (λ n. w * n) (way_zero (λ o. o.regular + o.displaced) refl),
+        ap (λ n. v * n) (sum_zero (λ p. cond (is_privileged p.task) p.task.had 0) s.jobs
+            (λ p member. ap (λ b. cond b p.task.had 0) (off p member))),
+      );
+      taken_are = λ o member. (booked.taken_are o member).0;
+      gone_are = λ o member. let it = booked.gone_are o member in record {
+        light = omega (
+          arith,
+          it.light,
+          sum_zero (λ q. one (is_light_on J.rules.ratio booked.way s.jobs o q)) (numbers_from 0 processors)
+              (λ q m. not_light o q (is_shut q (low q m))),
+        );
+        reach = it.reach;
+        dense = it.dense;
+      };
+    } where
+      not_light : (o : Over) (q : ℕ) → booked.way q ≡ shut
+          → one (is_light_on J.rules.ratio booked.way s.jobs o q) ≡ 0
+      not_light o q e = shut_first (booked.way q).lasts (nat_le (booked.way q).from o.at) _ (ap (λ (x : Open). x.lasts) e) where
+        shut_first : (a b c : Bool) → a ≡ false → one ((a && b) && c) ≡ 0
+        shut_first false b c e = refl
+        shut_first true b c e = never (sym e)
+
+      by_cover : (τ : ℕ) → (τ < s.clock) ⊎ (s.clock ≤ τ) → open_at booked.closed τ ≤ length (given_at ran τ)
+      by_cover τ (inl less) = omega (arith, booked.covered τ less)
+      by_cover τ (inr high) = omega (
+        arith,
+        sum_zero (λ c. one (is_open τ c)) booked.closed
+            (λ c member. closed_by (nat_le c.from τ) (nat_lt τ c.until)
+            (le-ltb _ _ (omega (arith, booked.ended c member, high)))),
+      ) where
+        closed_by : (a b : Bool) → b ≡ false → one (a && b) ≡ 0
+        closed_by true false e = refl
+        closed_by false b e = refl
+        closed_by true true e = never (sym e)
+
+      all_past : Each (λ o. o.at ≤ s.clock) (booked.taken ++ booked.gone)
+      all_past o member = by_part (member_either booked.taken booked.gone o member) where
+        by_part : IsMember o booked.taken ⊎ IsMember o booked.gone → o.at ≤ s.clock
+        by_part (inl m) = (booked.taken_are o m).1
+        by_part (inr m) = (booked.gone_are o m).before
+
+      by_was : (τ : ℕ) → WasBusy processors ran booked.way booked.fell s.jobs (booked.taken ++ booked.gone) τ
+          → IsBusyIn processors ran (booked.taken ++ booked.gone) τ
+      by_was τ (inl full) = inl full
+      by_was τ (inr it) = inr it.1
+
+      by_busy : (τ : ℕ) → (τ < s.clock) ⊎ (s.clock ≤ τ) → IsBusyIn processors ran (booked.taken ++ booked.gone) τ
+      by_busy τ (inl less) = by_was τ (booked.busy τ less)
+      by_busy τ (inr high) = inr (λ o member came before. absurd (omega (arith, all_past o member, before, high)))
+
+    -- what the intervals complete is what is done
+    completed : sum_by completed_in booked.closed ≡ value_sum (filter is_done (tasks_of s.jobs))
+    completed = omega (
+      arith,
+      sum_plus (λ (c : Interval). c.regular) (λ c. c.taken) booked.closed,
+      booked.regular_sum,
+      booked.taken_sum,
+      way_zero (λ o. o.regular) refl,
+      booked.done_sum job_value,
+      sum_filter is_done (λ t. t.job.value) (tasks_of s.jobs),
+      sum_map (λ (p : Placed). p.task) (λ t. cond (is_done t) t.job.value 0) s.jobs,
+    )
+
+    ended_bound : (schedule : List (List ℕ)) → IsFor processors schedule
+        → IsWithin J.rules.ratio (worth (numbered J) schedule) (value_sum (filter is_done (tasks_of s.jobs)))
+    unfolding are_books
+    ended_bound schedule few = subst (IsWithin J.rules.ratio (worth (numbered J) schedule)) completed
+        (many_bound J.rules.ratio v w processors (numbered J) ran are_books schedule few)
+
+  -- ---- the opening
+
+  opening_booked : Booked J.rules.ratio v w processors [] (opening J.jobs)
+  opening_booked = record {
+    closed = [];
+    way = λ q. shut;
+    regular = [];
+    taken = [];
+    gone = [];
+    fell = λ n. false;
+    lost = [];
+    missed = [];
+    ticks = refl;
+    in_order = tt;
+    ended = λ c member. absurd member;
+    paid = λ c member. absurd member;
+    under = λ q less. record {
+      none = λ e. (
+        refl,
+        λ p member own. never (sym (all_coming p member) ∙ (and_parts (is_privileged p.task)
+            (p.owner == q) own).0),
+      );
+      some = λ e. never e;
+      calm = λ e. (refl, refl);
+      taker = λ e. never e;
+    };
+    done_sum = λ f. sum_zero (λ p. cond (is_done p.task) (f (number_and_job p)) 0) (map unplaced (to_come 0 J.jobs))
+        (on_map unplaced (λ p. cond (is_done p.task) (f (number_and_job p)) 0 ≡ 0) (to_come 0 J.jobs)
+        (λ t m. ap (λ b. cond b (f (t.number, t.job)) 0)
+        (passes is_done t Coming false (come_coming 0 J.jobs t m).0 refl)));
+    gone_sum = λ f. sum_zero (λ p. cond (is_gone p.task) (f (number_and_job p)) 0) (map unplaced (to_come 0 J.jobs))
+        (on_map unplaced (λ p. cond (is_gone p.task) (f (number_and_job p)) 0 ≡ 0) (to_come 0 J.jobs)
+        (λ t m. ap (λ b. cond b (f (t.number, t.job)) 0)
+        (passes is_gone t Coming false (come_coming 0 J.jobs t m).0 refl)));
+    regular_sum = omega (arith, sum_zero (λ (q : ℕ). shut.regular) (numbers_from 0 processors) (λ q m. refl));
+    taken_sum = refl;
+    fallen_sum = omega (
+      arith,
+      sum_zero (fallen_value (λ n. false)) (map unplaced (to_come 0 J.jobs))
+          (λ p member. either_same 0 (is_over p.task)),
+    );
+    covered = λ τ before. absurd (omega (arith, before));
+    busy = λ τ before. absurd (omega (arith, before));
+    ticks_paid = omega arith;
+    taken_are = λ o member. absurd member;
+    gone_are = λ o member. absurd member;
+  } where
+    either_same : (n : ℕ) (b : Bool) → cond b n n ≡ n
+    either_same n true = refl
+    either_same n false = refl
+
+    all_coming : Each (λ p. is_privileged p.task ≡ false) (map unplaced (to_come 0 J.jobs))
+    all_coming = on_map unplaced (λ p. is_privileged p.task ≡ false) (to_come 0 J.jobs)
+        (λ t m. passes is_privileged t Coming false (come_coming 0 J.jobs t m).0 refl)
+
+  -- the bound of a run that ends
+  bound_by : 1 ≤ w → HasEnd (run processors J) → (schedule : List (List ℕ)) → IsFor processors schedule
+      → IsWithin J.rules.ratio (worth (numbered J) schedule) (completed_value processors J)
+  bound_by some_work ends schedule few =
+      let out = outcome (enough J.jobs) (opening J.jobs) [] (opening_kept processors J) opening_booked ends in
+      subst (IsWithin J.rules.ratio (worth (numbered J) schedule)) (sym out.value)
+      (ended_bound out.last out.ran out.keeps out.holds out.over some_work schedule few)
+
+-- the books of a run that ends, with the ticks that it gives
+pub run_books : (processors : ℕ) (J : Instance) → 1 ≤ processors → IsValid J → HasEnd (run processors J) → (j : JobFacts)
+    → IsLeastDense J j → AreBooks J.rules.ratio j.value j.work processors (numbered J) (ran processors J)
+run_books processors J some valid ends j least =
+    let modest = least_modest J valid j least in
+    let out = outcome j.value j.work processors some J valid modest (enough J.jobs) (opening J.jobs) []
+    (opening_kept processors J) (opening_booked j.value j.work processors some J valid modest) ends in
+    subst (AreBooks J.rules.ratio j.value j.work processors (numbered J)) out.given
+    (are_books j.value j.work processors some J valid modest out.last out.ran out.keeps out.holds out.over
+    (job_limits (all_member IsJob J.jobs (valid_parts valid).each j least.job)).work)
+
+-- no schedule of as many processors is worth more than the bound of what the run completes
+pub run_bound : (processors : ℕ) (J : Instance) (schedule : List (List ℕ)) → 1 ≤ processors → IsValid J
+    → HasEnd (run processors J) → IsFor processors schedule
+    → IsWithin J.rules.ratio (worth (numbered J) schedule) (completed_value processors J)
+run_bound processors J schedule some valid ends few = by_jobs (some_least J valid) where
+  by_jobs : (J.jobs ≡ []) ⊎ ((j : JobFacts) × IsLeastDense J j)
+      → IsWithin J.rules.ratio (worth (numbered J) schedule) (completed_value processors J)
+  by_jobs (inr it) = bound_by it.0.value it.0.work processors some J valid (least_modest J valid it.0 it.1)
+      (job_limits (all_member IsJob J.jobs (valid_parts valid).each it.0 it.1.job)).work ends schedule few
+  by_jobs (inl none) = bound_by 0 1 processors some J valid
+      (λ i member. absurd (subst (IsMember i) none member)) (omega arith) ends schedule few

@@ -1,0 +1,7 @@
+-- What no schedule of as many processors exceeds, over any books: no machine is looked at here.
+pub mod Ticks
+pub mod Aside
+pub mod Sharing
+pub mod Summing
+pub mod Chains
+pub mod Bounding

@@ -1,0 +1,272 @@
+-- The competitive bound over any books of a run of several processors.
+use Rattle.std.proofs.Common.{◌≡◌, ℕ, ◌+◌, ◌-◌, ◌*◌, ◌≤◌, ◌⊎◌, inl, inr, List, [], ◌∷◌, ◌++◌, length, refl, sym}
+use Rattle.std.proofs.Common.{◌∙◌, subst, Bool, true, false, cond, eqb, arith, sum_by, filter, leb-true}
+use Rattle.std.proofs.Math.Nat.{mul-le-mul_left}
+use Rattle.std.proofs.lemmas.List.Sums.{sum_by-cons, sum_by-append}
+use Rattle.dover_model.specs.Fraction.{Fraction}
+use Rattle.dover_model.specs.Bound.{IsWithin}
+use Rattle.dover_model.specs.Orders.{IsHeavy}
+use Rattle.dover_model.specs.Sound.{IsMember, Each}
+use Rattle.dover_model.specs.Books.{Job, job_value, IsExcess}
+use Rattle.dover_model.proofs.lists.Members.{sum_le, sum_same, sum_plus, sum_filter, cond_le, member_filter}
+use Rattle.dover_model.proofs.lists.Members.{member_either, member_front, member_behind}
+use Rattle.dover_model.proofs.lists.Tests.{never}
+use Rattle.dover_model.proofs.bound.Books.{scaled_sum}
+use Rattle.dover_model.proofs.bound.Calculus.{cancel, not_heavy, excess_zero, excess_add}
+use Rattle.dover_model.proofs.bound.Counting.{one}
+use Rattle.many_processors.specs.Schedules.{is_served, earned, worth, IsFor}
+use Rattle.many_processors.specs.Books.{Interval, Over, job_of, completed_in, IsBusyIn, TakenIn, GoneIn, is_light_in}
+use Rattle.many_processors.specs.Books.{AreBooks}
+use Rattle.many_processors.proofs.bound.Aside.{set_aside}
+use Rattle.many_processors.proofs.bound.Chains.{twice_sum, within_twice}
+use Rattle.many_processors.proofs.bound.Sharing.{NamesOnce, SetAside, light_parts, in_order_of}
+use Rattle.many_processors.proofs.bound.Summing.{works_fit}
+
+-- ---- numbers
+
+-- what a schedule earns by jobs completed before a take (usual, of r), after one (served, of served + other), by those
+-- that a first take displaced (lost, of e; of which so much, spare, is completed), set aside (aside) and abandoned besides
+-- (rest, of so much work), where they fit the ticks
+parts_most : (p q v w usual served other spare lost aside rest work ticks had other_had r d e y : ℕ) → 1 ≤ w → q ≤ p
+    → usual ≤ r → lost ≤ e
+    → work + had ≤ ticks → v * ticks ≤ w * (r + d + spare) + v * (had + other_had) → v * other_had ≤ w * other
+    → q * w * rest ≤ p * v * work → aside ≤ (r + (served + other + spare)) + y
+    → q * (usual + served + lost + (aside + rest))
+    ≤ (p + q) * (r + (served + other + spare)) + (q * r + (p * d + q * e) + q * y)
+parts_most p q v w usual served other spare lost aside rest work ticks had other_had r d e y some ratio low few fit paid own
+    dense little =
+    let fit_times : p * v * (work + had) ≤ p * v * ticks = mul-le-mul_left (p * v) fit in
+    let paid_times : p * (v * ticks) ≤ p * (w * (r + d + spare) + v * (had + other_had)) = mul-le-mul_left p paid in
+    let own_times : p * (v * other_had) ≤ p * (w * other) = mul-le-mul_left p own in
+    let served_times : w * served * q ≤ w * served * p = mul-le-mul_left (w * served) ratio in
+    let usual_times : w * q * usual ≤ w * q * r = mul-le-mul_left (w * q) low in
+    let lost_times : w * q * lost ≤ w * q * e = mul-le-mul_left (w * q) few in
+    let aside_times : w * q * aside ≤ w * q * ((r + (served + other + spare)) + y) = mul-le-mul_left (w * q) little in
+    cancel w (q * (usual + served + lost + (aside + rest)))
+    ((p + q) * (r + (served + other + spare)) + (q * r + (p * d + q * e) + q * y)) some
+    (omega (arith, fit_times, paid_times, own_times, served_times, usual_times, lost_times, aside_times, dense))
+
+-- what is above adds up
+excess_sum : (k : Fraction) → 1 ≤ k.q → k.q ≤ k.p → {X : Type 0} → (f g : X → ℕ) (xs : List X)
+    → Each (λ x. IsExcess k (f x) (g x)) xs → IsExcess k (sum_by f xs) (sum_by g xs)
+excess_sum k some_q ratio f g [] all = excess_zero k 0
+excess_sum k some_q ratio f g (x ∷ xs) all =
+    let both : IsExcess k (f x + sum_by f xs) (g x + sum_by g xs) =
+    excess_add k some_q ratio (f x) (sum_by f xs) (g x) (sum_by g xs) (all x (inl refl))
+    (excess_sum k some_q ratio f g xs (λ y member. all y (inr member))) in
+    subst (λ n. IsExcess k n (sum_by g (x ∷ xs))) (sym (sum_by-cons f x xs))
+    (subst (λ n. IsExcess k (f x + sum_by f xs) n) (sym (sum_by-cons g x xs)) both)
+
+-- ---- one schedule
+
+module _ (k : Fraction) (v w : ℕ) (processors : ℕ) (jobs : List Job) (ran : List (List ℕ))
+    (books : AreBooks k v w processors jobs ran) (s : List (List ℕ)) (few : IsFor processors s) where
+  -- the schedule serves the job
+  abbrev serves : Over → Bool
+  serves o = is_served s (job_of o)
+
+  -- the served ones of the jobs completed after a take, and of the abandoned ones
+  abbrev taken : List Over
+  taken = filter serves books.taken
+
+  abbrev gone : List Over
+  gone = filter serves books.gone
+
+  -- a sum over these, as one over all
+  served_less : (f : Over → ℕ) (some : List Over) → sum_by f (filter serves some) ≤ sum_by f some
+  served_less f some = omega (
+    arith,
+    sum_filter serves f some,
+    sum_le (λ o. cond (serves o) (f o) 0) f some (λ o member. cond_le (serves o) (f o)),
+  )
+
+  -- no number names two of them
+  once : NamesOnce (taken ++ gone)
+  once n = omega (
+    arith,
+    sum_by-append (λ (o : Over). one (eqb n o.number)) taken gone,
+    served_less (λ o. one (eqb n o.number)) books.taken,
+    served_less (λ o. one (eqb n o.number)) books.gone,
+    books.each_once (λ n_j. one (eqb n n_j.0)),
+    books.names n,
+  )
+
+  -- each is one of all
+  of_all : Each (λ o. IsMember o (books.taken ++ books.gone)) (taken ++ gone)
+  of_all o member = by_part (member_either taken gone o member) where
+    by_part : IsMember o taken ⊎ IsMember o gone → IsMember o (books.taken ++ books.gone)
+    by_part (inl m) = member_front books.taken books.gone o (member_filter serves books.taken o m).0
+    by_part (inr m) = member_behind books.taken books.gone o (member_filter serves books.gone o m).0
+
+  -- so the run is busy as long as one is ready
+  busy : (τ : ℕ) → IsBusyIn processors ran (taken ++ gone) τ
+  busy τ = by_busy (books.busy τ) where
+    by_busy : IsBusyIn processors ran (books.taken ++ books.gone) τ → IsBusyIn processors ran (taken ++ gone) τ
+    by_busy (inl full) = inl full
+    by_busy (inr each) = inr (λ o member. each o (of_all o member))
+
+  -- what is known of each
+  is_taken : Each (λ o. (serves o ≡ true) × TakenIn v w o) taken
+  is_taken o member = let it = member_filter serves books.taken o member in (it.1, books.taken_are o it.0)
+
+  is_gone : Each (λ o. (serves o ≡ true) × GoneIn k v w processors books.intervals o) gone
+  is_gone o member = let it = member_filter serves books.gone o member in (it.1, books.gone_are o it.0)
+
+  -- what is set aside
+  aside : SetAside k books.intervals gone
+  aside = set_aside (λ (i : Interval). i.until) (λ (o : Over). o.job.deadline) (λ i o. is_light_in k o i)
+      books.intervals gone (in_order_of k books.intervals books.in_order)
+
+  -- the others ask for no more ticks than the run gives
+  fit : sum_by (λ o. o.job.work) aside.rest + sum_by (λ o. o.had) taken ≤ sum_by length ran
+  fit = works_fit k processors books.intervals taken gone ran once books.covered busy
+      (λ o member. (is_gone o member).1.light) aside s few
+      (λ o member. leb-true _ _ (is_taken o member).0) (λ o member. leb-true _ _ (is_gone o member).0)
+      (λ o member. ((is_taken o member).1.at_most_work, (is_taken o member).1.reach))
+      (λ o member. (is_gone o member).1.reach)
+
+  -- ---- values
+
+  -- over all intervals
+  abbrev regular_all : ℕ
+  regular_all = sum_by (λ i. i.regular) books.intervals
+
+  abbrev taken_all : ℕ
+  taken_all = sum_by (λ i. i.taken) books.intervals
+
+  abbrev displaced_all : ℕ
+  displaced_all = sum_by (λ i. i.displaced) books.intervals
+
+  abbrev first_all : ℕ
+  first_all = sum_by (λ i. i.first) books.intervals
+
+  -- of the jobs completed after a take, what isn't served
+  abbrev unserved : (Over → ℕ) → ℕ
+  unserved f = sum_by (λ o. cond (serves o) 0 (f o)) books.taken
+
+  both_parts : (f : Over → ℕ) → sum_by f books.taken ≡ sum_by f taken + unserved f
+  both_parts f = omega (
+    arith,
+    sum_filter serves f books.taken,
+    sum_plus (λ o. cond (serves o) (f o) 0) (λ o. cond (serves o) 0 (f o)) books.taken,
+    sum_same f (λ o. cond (serves o) (f o) 0 + cond (serves o) 0 (f o)) books.taken (λ o member. split (serves o) (f o)),
+  ) where
+    split : (b : Bool) (n : ℕ) → n ≡ cond b n 0 + cond b 0 n
+    split true n = omega arith
+    split false n = omega arith
+
+  -- their values pay for the ticks that they had
+  unserved_paid : v * unserved (λ o. o.had) ≤ w * unserved (λ o. o.job.value)
+  unserved_paid = scaled_sum v w (λ (o : Over). cond (serves o) 0 o.had) (λ o. cond (serves o) 0 o.job.value) books.taken
+      (λ o member. by_test (serves o) o.had o.job.value (books.taken_are o member).had_paid) where
+        by_test : (b : Bool) (had value : ℕ) → v * had ≤ w * value → v * cond b 0 had ≤ w * cond b 0 value
+        by_test true had value paid = omega arith
+        by_test false had value paid = paid
+
+  -- what a job that is set aside is worth above what its interval completes
+  abbrev above : Interval × Over → ℕ
+  above p = p.1.job.value - completed_in p.0
+
+  abbrev above_all : ℕ
+  above_all = sum_by above aside.pairs
+
+  -- all intervals complete what they complete as usual and after takes
+  completed_parts : sum_by completed_in books.intervals ≡ regular_all + taken_all
+  completed_parts = sum_plus (λ (i : Interval). i.regular) (λ i. i.taken) books.intervals
+
+  -- it is little
+  little : IsExcess k above_all (regular_all + taken_all)
+  little =
+      let some : IsExcess k above_all (sum_by (λ p. completed_in p.0) aside.pairs) =
+      excess_sum k books.some_q books.ratio above (λ p. completed_in p.0) aside.pairs
+      (λ p member. let it = aside.members p member in not_heavy k p.1.job.value (completed_in p.0)
+      (light p it.0 it.1 it.2)) in
+      let all : IsExcess k (above_all + 0)
+      (sum_by (λ p. completed_in p.0) aside.pairs + sum_by completed_in aside.others) =
+      excess_add k books.some_q books.ratio above_all 0 (sum_by (λ p. completed_in p.0) aside.pairs)
+      (sum_by completed_in aside.others) some (excess_zero k (sum_by completed_in aside.others)) in
+      subst (λ n. IsExcess k n (regular_all + taken_all)) (same above_all)
+      (subst (IsExcess k (above_all + 0)) (sym (aside.intervals completed_in) ∙ completed_parts) all) where
+        same : (n : ℕ) → n + 0 ≡ n
+        same n = omega arith
+
+        light : (p : Interval × Over) → IsMember p.0 books.intervals → IsMember p.1 gone → is_light_in k p.1 p.0 ≡ true
+            → IsHeavy k p.1.job.value (completed_in p.0) → ⊥
+        light p i_member o_member is_own heavy = never (sym (light_parts k p.1 p.0 is_own).2 ∙ heavy)
+
+  -- what is set aside is worth no more than what all intervals complete, and what is above
+  aside_worth : sum_by (λ p. p.1.job.value) aside.pairs ≤ (regular_all + taken_all) + above_all
+  aside_worth = omega (
+    arith,
+    sum_le (λ (p : Interval × Over). p.1.job.value) (λ p. completed_in p.0 + above p) aside.pairs
+        (λ p member. omega arith),
+    sum_plus (λ p. completed_in p.0) above aside.pairs,
+    aside.intervals completed_in,
+    completed_parts,
+  )
+
+  -- the rest is paid by its work
+  rest_dense : k.q * w * sum_by (λ o. o.job.value) aside.rest ≤ k.p * v * sum_by (λ o. o.job.work) aside.rest
+  rest_dense = scaled_sum (k.q * w) (k.p * v) (λ (o : Over). o.job.value) (λ o. o.job.work) aside.rest
+      (λ o member. (is_gone o (aside.rest_members o member)).1.dense)
+
+  -- what the schedule is worth, in parts
+  worth_parts : worth jobs s ≤ sum_by (earned s) books.regular + sum_by (λ o. o.job.value) taken
+      + sum_by (earned s) books.lost + (sum_by (λ p. p.1.job.value) aside.pairs + sum_by (λ o. o.job.value) aside.rest)
+  worth_parts = omega (
+    arith,
+    books.each_once (earned s),
+    sum_filter serves (λ (o : Over). o.job.value) books.taken,
+    sum_filter serves (λ (o : Over). o.job.value) books.gone,
+    aside.sums (λ o. o.job.value),
+  )
+
+  -- what it earns by jobs completed before a take is no more than they are worth
+  usual_most : sum_by (earned s) books.regular ≤ regular_all
+  usual_most = omega (
+    arith,
+    books.regular_sum,
+    sum_le (earned s) job_value books.regular (λ n_j member. cond_le (is_served s n_j) n_j.1.value),
+  )
+
+  -- nor is what it earns by those that a first take displaced
+  lost_most : sum_by (earned s) books.lost ≤ first_all
+  lost_most = omega (
+    arith,
+    books.lost_sum,
+    sum_le (earned s) job_value books.lost (λ n_j member. cond_le (is_served s n_j) n_j.1.value),
+  )
+
+  -- the parts, together
+  most : k.q * worth jobs s ≤ (k.p + k.q) * (regular_all + taken_all)
+      + (k.q * regular_all + (k.p * displaced_all + k.q * first_all) + k.q * above_all)
+  most =
+      let values : sum_by (λ o. o.job.value) taken + unserved (λ o. o.job.value) + books.spare ≡ taken_all =
+      omega (arith, both_parts (λ o. o.job.value), books.taken_sum) in
+      let parts : k.q * (sum_by (earned s) books.regular + sum_by (λ o. o.job.value) taken
+      + sum_by (earned s) books.lost
+      + (sum_by (λ p. p.1.job.value) aside.pairs + sum_by (λ o. o.job.value) aside.rest))
+      ≤ (k.p + k.q) * (regular_all + (sum_by (λ o. o.job.value) taken + unserved (λ o. o.job.value) + books.spare))
+      + (k.q * regular_all + (k.p * displaced_all + k.q * first_all) + k.q * above_all) =
+      parts_most k.p k.q v w (sum_by (earned s) books.regular) (sum_by (λ o. o.job.value) taken)
+      (unserved (λ o. o.job.value)) books.spare (sum_by (earned s) books.lost)
+      (sum_by (λ p. p.1.job.value) aside.pairs) (sum_by (λ o. o.job.value) aside.rest)
+      (sum_by (λ o. o.job.work) aside.rest) (sum_by length ran) (sum_by (λ o. o.had) taken) (unserved (λ o. o.had))
+      regular_all displaced_all first_all above_all books.some_work books.ratio usual_most lost_most fit
+      (subst (λ n. v * sum_by length ran ≤ w * (regular_all + displaced_all + books.spare) + v * n)
+      (both_parts (λ o. o.had)) books.ticks_paid) unserved_paid rest_dense
+      (subst (λ n. sum_by (λ p. p.1.job.value) aside.pairs ≤ (regular_all + n) + above_all) (sym values) aside_worth) in
+      let worth_times : k.q * worth jobs s ≤ k.q * (sum_by (earned s) books.regular + sum_by (λ o. o.job.value) taken
+      + sum_by (earned s) books.lost
+      + (sum_by (λ p. p.1.job.value) aside.pairs + sum_by (λ o. o.job.value) aside.rest)) =
+      mul-le-mul_left k.q worth_parts in
+      subst (λ n. k.q * worth jobs s ≤ (k.p + k.q) * (regular_all + n)
+      + (k.q * regular_all + (k.p * displaced_all + k.q * first_all) + k.q * above_all)) values
+      (omega (arith, worth_times, parts))
+
+  -- no schedule is worth more than the bound of what is completed
+  pub many_bound : IsWithin k (worth jobs s) (sum_by completed_in books.intervals)
+  many_bound = subst (IsWithin k (worth jobs s)) (sym completed_parts)
+      (within_twice k books.some_q books.ratio (worth jobs s) regular_all taken_all displaced_all first_all above_all most
+      (twice_sum k books.some_q books.ratio (λ (i : Interval). i.displaced) (λ i. i.first) (λ i. i.taken) books.intervals
+      books.displaced) little)

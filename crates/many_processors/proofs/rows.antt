@@ -1,0 +1,3 @@
+-- Runs of small feeds, by computation.
+pub mod SmallRows
+pub mod MadeUpRows

@@ -1,0 +1,5 @@
+//! Several processors: the machine, as definitions, and the competitive bound.
+#![tactic(auto)]
+
+pub mod bound_laws;
+pub mod run_laws;

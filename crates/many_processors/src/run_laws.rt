@@ -1,0 +1,62 @@
+//! Laws of a run on several processors, each a clause of a function that does nothing.
+ghost use Rattle.std.specs.Prelude.{◌≡◌, ℕ, ◌≤◌, ◌<◌, ◌+◌, ◌*◌, ◌⊎◌, length, [], true, false};
+ghost use Rattle.std.specs.List.{sum_by};
+ghost use Rattle.dover_model.specs.declared.events.Role.TheVariants.{Fresh, Waiting, Held, Done};
+ghost use Rattle.dover_model.specs.Common.{Instance, IsValid, IsMember, Each, numbered, is_due, left};
+ghost use Rattle.dover_model.specs.JobFacts.{JobFacts};
+ghost use Rattle.many_processors.specs.State.{State, opening};
+ghost use Rattle.many_processors.specs.Step.{Ticks, step, after};
+ghost use Rattle.many_processors.specs.Sound.{Keeps};
+ghost use Rattle.many_processors.specs.Run.{run, ran, printed, completed_value, HasEnd};
+ghost use Rattle.many_processors.specs.Schedules.{IsFor, is_named, worth};
+ghost use Rattle.many_processors.specs.Books.{given_at};
+ghost use Rattle.many_processors.specs.Ticks.{SomeRunsOn, AreDifferent, FewAtOnce, takes_or_abandons};
+ghost use Rattle.many_processors.specs.Observed.{observed, end_state};
+
+/// - `sound_opening`, `sound_steps`: the opening is sound as each processor sees it, and each step of a valid instance
+///   keeps a state so: what a processor runs and holds is done in time in the order of deadlines, and no processor runs
+///   two jobs.
+/// - `ends`: a run comes to its end, within a tick each up to the last deadline and five steps for each job.
+/// - `few_steps`: at most five steps for each job are printed, and End.
+/// - `few_at_once`: each tick of a run is given to at most as many jobs as there are processors.
+/// - `no_job_twice`: no tick is given to a job twice, so none runs on two processors at once.
+/// - `in_window`: each tick that a job has is one of its window, from its release to its deadline.
+/// - `none_free`: in each tick in which a job is fresh or waits, a job runs on each processor.
+/// - `none_holds`: in each tick in which a job is held, a job runs on its processor.
+/// - `none_lost`, `all_value`: where no tick is in the windows of more jobs than there are processors, none is taken late
+///   or abandoned, and the run has the value of all.
+/// - `honest`: the value that a run ends with is what its own schedule is worth, by the works as the run observed them.
+/// - `done`: a job that is completed had all its work, or had come to a finish of its own.
+/// - `as_declared`: where no job finishes early, the works that the run observed are the declared ones.
+pub fn laws_of_runs()
+    ensures sound_opening { (processors : ℕ) (J : Instance) → Keeps processors J (opening J.jobs) }
+    ensures sound_steps { (processors : ℕ) (J : Instance) (s : State) → 1 ≤ processors → IsValid J
+        → Keeps processors J s → Keeps processors J (after s (step processors J.rules s)) }
+    ensures ends { (processors : ℕ) (J : Instance) → 1 ≤ processors → IsValid J → HasEnd (run processors J) }
+    ensures few_steps { (processors : ℕ) (J : Instance) → 1 ≤ processors → IsValid J
+        → length (printed processors J) ≤ 5 * length J.jobs + 1 }
+    ensures few_at_once { (processors : ℕ) (J : Instance) → 1 ≤ processors → IsValid J
+        → IsFor processors (ran processors J) }
+    ensures no_job_twice { (processors : ℕ) (J : Instance) → 1 ≤ processors → IsValid J
+        → Each AreDifferent (ran processors J) }
+    ensures in_window { (processors : ℕ) (J : Instance) (n τ : ℕ) (j : JobFacts) → 1 ≤ processors → IsValid J
+        → IsMember (n, j) (numbered J) → is_named n (given_at (ran processors J) τ) ≡ true
+        → (j.release ≤ τ) × (τ < j.deadline) }
+    ensures none_free { (processors : ℕ) (J : Instance) → 1 ≤ processors → IsValid J
+        → Each (λ x. x.move ≡ Ticks → Each (λ p. (p.task.role ≡ Fresh) ⊎ (p.task.role ≡ Waiting)
+        → (q : ℕ) → q < processors → SomeRunsOn q x.before) x.before.jobs) (run processors J) }
+    ensures none_holds { (processors : ℕ) (J : Instance) → 1 ≤ processors → IsValid J
+        → Each (λ x. x.move ≡ Ticks → Each (λ p. p.task.role ≡ Held → SomeRunsOn p.owner x.before) x.before.jobs)
+        (run processors J) }
+    ensures none_lost { (processors : ℕ) (J : Instance) → 1 ≤ processors → IsValid J → FewAtOnce processors J
+        → Each (λ x. takes_or_abandons x.move ≡ false) (run processors J) }
+    ensures all_value { (processors : ℕ) (J : Instance) → 1 ≤ processors → IsValid J → FewAtOnce processors J
+        → completed_value processors J ≡ sum_by (λ j. j.value) J.jobs }
+    ensures honest { (processors : ℕ) (J : Instance) → 1 ≤ processors → IsValid J
+        → worth (numbered (observed processors J)) (ran processors J) ≡ completed_value processors J }
+    ensures done { (processors : ℕ) (J : Instance) → 1 ≤ processors → IsValid J
+        → Each (λ p. p.task.role ≡ Done → (left p.task ≡ 0) ⊎ (is_due J.rules.finishes p.task ≡ true))
+        (end_state processors J).jobs }
+    ensures as_declared { (processors : ℕ) (J : Instance) → 1 ≤ processors → IsValid J → J.rules.finishes ≡ []
+        → observed processors J ≡ J }
+{}
