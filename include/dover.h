@@ -16,8 +16,8 @@
            answers DOVER_COUNT or DOVER_TOTAL from such a limit on till the open jobs are over. No rest lifts two: the
            last tick, and 10,000,000,000,000,000,000 jobs in all, which are at least 1,000 for each tick that there is.
            dover_restart lifts both: at rest it begins the clock and the numbers anew.
-   Memory  dover_init takes all of it: 148 bytes for each job of the capacity, 200 in version 4, and a little more.
-           No later call takes or gives back any, but dover_drop, which gives all back.
+   Memory  dover_init takes all of it: as measured 148 bytes for each job of the capacity, 200 in version 4, and a
+           little more. No later call takes or gives back any, but dover_drop, which gives all back.
    Errors  Every call answers whatever it is asked, in any order, of a place that dover_init was called for, and of one
            of zeros: behind dover_drop, and where none was made, it says that there is no engine. A refused call leaves
            the engine as it was.
