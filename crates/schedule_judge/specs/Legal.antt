@@ -71,6 +71,15 @@ switch_cause s stops starts = option_or (unless (runs s stops) cause.Turn)
 abbrev pub complete_cause : Schedule → (at n : ℕ) → Option Cause
 complete_cause s at n = option_or (unless (runs s n) cause.Turn) (unless (is_served s at n) cause.Early)
 
+-- The job of number n is past its deadline at this tick.
+abbrev pub is_past : List ToldJob → (at n : ℕ) → Bool
+is_past jobs at n = option_map_or (λ told. nat_lt told.job.deadline at) (slice_get jobs n) false
+
+-- A job is abandoned by its deadline at the latest, where it is released and not over.
+abbrev pub abandon_cause : Schedule → (at n : ℕ) → Option Cause
+abandon_cause s at n =
+    option_or (unless (not (is_past s.jobs at n)) cause.Late) (unless (may_run s.jobs n) cause.Job)
+
 -- At the end each job is completed or abandoned, and the value is that of the completed ones.
 abbrev pub end_cause : Schedule → (value : ℕ) → Option Cause
 end_cause s value = option_or (unless (list_all is_over s.jobs) cause.Open)
@@ -83,7 +92,7 @@ cause_of s (Run at n) = option_or (tick_cause s at) (run_cause s n)
 cause_of s (Preempt at stops starts) = option_or (tick_cause s at) (switch_cause s stops starts)
 cause_of s (Take at stops starts) = option_or (tick_cause s at) (switch_cause s stops starts)
 cause_of s (Complete at n) = option_or (tick_cause s at) (complete_cause s at n)
-cause_of s (Abandon at n) = option_or (tick_cause s at) (unless (may_run s.jobs n) cause.Job)
+cause_of s (Abandon at n) = option_or (tick_cause s at) (abandon_cause s at n)
 cause_of s (End value) = end_cause s value
 
 -- ---- what a step makes of it

@@ -180,6 +180,26 @@ impl Book {
         )
     }
 
+    /// The job of this number is past its deadline at this tick.
+    fn is_past(&self, at: u64, number: u32) -> bool
+        ensures { result ≡ legal.is_past self.now.jobs at number }
+    {
+        match self.jobs.get(number as usize) {
+            Some(told) => told.job.deadline() < at,
+            None => false,
+        }
+    }
+
+    /// Why this job can't be abandoned at this tick.
+    fn abandon_cause(&self, at: u64, number: u32) -> Option<Cause>
+        ensures { result ≡ legal.abandon_cause self.now at number }
+    {
+        first_of(
+            unless(!self.is_past(at, number), Cause::Late),
+            unless(may_run(&self.jobs, number), Cause::Job),
+        )
+    }
+
     /// Why the schedule can't end with this value.
     fn end_cause(&self, value: u64) -> Option<Cause>
         ensures { result ≡ legal.end_cause self.now value }
@@ -212,10 +232,9 @@ impl Book {
             Event::Complete { at, number } => {
                 first_of(self.tick_cause(*at), self.complete_cause(*at, *number))
             }
-            Event::Abandon { at, number } => first_of(
-                self.tick_cause(*at),
-                unless(may_run(&self.jobs, *number), Cause::Job),
-            ),
+            Event::Abandon { at, number } => {
+                first_of(self.tick_cause(*at), self.abandon_cause(*at, *number))
+            }
             Event::End { value } => self.end_cause(*value),
         }
     }

@@ -9,7 +9,7 @@ pub enum Cause {
     Line,
     /// Its tick is below that of a line before it.
     Order,
-    /// At its tick the job that runs is past its deadline.
+    /// At its tick the job that runs, or the one that is abandoned, is past its deadline.
     Late,
     /// At its tick the job that runs has had more ticks than its work.
     Work,

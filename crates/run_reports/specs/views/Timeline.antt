@@ -103,6 +103,11 @@ is_over_by a (Some (Abandoned at)) = nat_le at a
 abbrev pub is_begun_in : (a b : ℕ) → List Stay → Option Ending → Bool
 is_begun_in a b stays ending = list_any (λ stay. nat_lt stay.from b) stays && not (is_over_by a ending)
 
+-- an end as the signs have it: a job that is abandoned at its deadline is abandoned in its last tick
+abbrev pub drawn_ending : JobFacts → Option Ending → Option Ending
+drawn_ending j (Some (Abandoned at)) = Some (Abandoned (min at (j.deadline - 1)))
+drawn_ending j ending = ending
+
 -- the first of the signs X ! # - . that applies
 abbrev pub sign : (a b : ℕ) → List Stay → Option Ending → ℕ
 sign a b stays ending =
@@ -127,7 +132,7 @@ signs_from w stays ending (suc more) column =
 abbrev pub signs : Window → JobFacts → List Stay → Option Ending → Text
 signs w j stays ending =
     let first = column_of w j.release in let behind = column_of w (min j.deadline w.until - 1) + 1 in
-    blanks first ++ signs_from w stays ending (behind - first) first
+    blanks first ++ signs_from w stays (drawn_ending j ending) (behind - first) first
 
 -- the number, with blanks in front of it to six places
 abbrev pub placed : ℕ → Text

@@ -32,13 +32,27 @@ pub fn put_signs(
 {
     let first = window.column_of(job.release());
     let last = window.column_of(job.deadline().min(window.until).saturating_sub(1));
+    let drawn = drawn_ending(job, ending);
     put_blanks(text, first)?;
     for column in first..last + 1 {
         let from = window.first_tick(column);
         let until = window.end_tick(column);
-        text.push(sign(from, until, own, ending))?;
+        text.push(sign(from, until, own, drawn))?;
     }
     Ok(())
+}
+
+/// An end as the signs have it: a job that is abandoned at its deadline is abandoned in its last tick.
+fn drawn_ending(job: &Job, ending: Option<Ending>) -> Option<Ending>
+    ensures { result ≡ picture.drawn_ending job.now ending }
+{
+    match ending {
+        Some(Ending::Abandoned(at)) => {
+            let last = job.deadline().saturating_sub(1);
+            Some(Ending::Abandoned(at.min(last)))
+        }
+        _ => ending,
+    }
 }
 
 /// The first of the signs `X`, `!`, `#`, `-` and `.` that applies in the ticks from `from` on and before `until`.
