@@ -1,5 +1,5 @@
-"""Which program the scripts of this folder call: the one that `--dover PROGRAM` names among their words, or that of this
-checkout where it is built. None of them builds it."""
+"""Which program the scripts of this folder call: the one that `--dover PROGRAM` names among their words, or that of
+this checkout where it is built. None of them builds it."""
 import os
 import shlex
 import sys
