@@ -1,4 +1,4 @@
-//! The word `sure`: of each task, whether a job of it can be lost, however the jobs of all tasks come.
+//! The word `sure`: of each task, whether it passes a test by which no job of it is lost, however all jobs come.
 mod answering;
 mod densities;
 mod laws;

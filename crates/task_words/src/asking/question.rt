@@ -7,7 +7,7 @@ ghost use Rattle.task_words.specs.asking.Questions.{until_of};
 pub enum TaskQuestion {
     /// The feed of the jobs that they release before a tick.
     Unroll { until: u64 },
-    /// Of each, whether a job of it can be lost.
+    /// Of each, whether it passes a test by which no job of it is lost.
     Sure,
     /// The tasks with their works made budgets that pay for changes of hands of at most `cost` ticks.
     Budget { cost: u64 },

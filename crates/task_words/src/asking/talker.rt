@@ -1,6 +1,7 @@
 //! What the reading loop calls: a reader of the tasks, of which something is asked at the end.
-ghost use Rattle.std.specs.Prelude.{◌≡◌, []};
+ghost use Rattle.std.specs.Prelude.{◌≡◌, [], Err};
 ghost use Rattle.dialogue.specs.Turns.{StopCause, StopsOn};
+ghost use Rattle.dialogue.specs.declared.talker.Stop.TheVariants as stop;
 ghost use Rattle.dover_model.specs.Common.{IsRatio, IsDeclarable};
 ghost use Rattle.task_words.specs.tasks.Limits.{AreTasks};
 ghost use Rattle.task_words.specs.reading.Keeping.{IsKnown};
@@ -24,7 +25,7 @@ use std::alloc::Global;
 use std::marker::PhantomData;
 use std::sync::ledger::Ledger;
 
-/// The answer to the question on these tasks.
+/// The answer to the question on these tasks. That to `Sure` takes no memory.
 fn answer<P: Port, L: Ledger>(
     alloc: Global,
     port: &mut P,
@@ -40,6 +41,7 @@ fn answer<P: Port, L: Ledger>(
     requires are { AreTasks (until_of question) (listed_rules listed).ratio listed.tasks.items }
     ensures says { SaysBy (Says question (listed_rules listed) listed.tasks.items)
         (P.moves port.old) (P.moves port.new) out.new result }
+    ensures memory { question ≡ TaskQuestion.Sure → result ≡ Err stop.NoMemory → ⊥ }
     ensures count { CostsFew question listed.tasks.items comparisons.old comparisons.new }
     ensures cause { StopCause result
         (P.write_faults port.old) (P.write_faults port.new) (P.read_faults port.old) (P.read_faults port.new) }

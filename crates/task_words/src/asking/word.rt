@@ -23,8 +23,8 @@ use std::sync::ledger::Ledger;
 /// - `Unroll` writes the feed of all jobs that the tasks release before the tick `until`, at most 10^12, in order of
 ///   release, and those of one tick in the order of the tasks. The feed has no fault. Tasks with more than 1,000,000
 ///   jobs, or whose jobs are worth more than 10^13, are refused.
-/// - `Sure` writes a line for each task: whether a job of it can be lost, however the jobs of all tasks come, and if so
-///   which value would rule it out, if one does.
+/// - `Sure` writes a line for each task: whether it passes a test by which no job of it is lost, however the jobs of all
+///   tasks come, and if not the least value that would pass it, if one would. This takes no memory.
 /// - `Budget` writes the task text again, with each work made a budget that pays for changes of hands of at most `cost`
 ///   ticks: the work, and the cost for each time that a job of the task gets the processor at most. Tasks of which a
 ///   budget is above its deadline are refused, and then those of which two budgets break the ratio: the first such task
