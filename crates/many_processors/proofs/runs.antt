@@ -5,3 +5,4 @@ pub mod Weighing
 pub mod RunEnds
 pub mod RanFor
 pub mod Honest
+pub mod Underload

@@ -19,8 +19,8 @@ use Rattle.dover_model.specs.Step.{View, with_role}
 use Rattle.dover_model.specs.Step as single
 use Rattle.many_processors.specs.State.{Placed, State, tasks_of, seen_from}
 
--- what a step is: a printed event on a processor (0 where it is on none), a silent wait of the fresh job of this number,
--- or a silent tick
+-- what a step is: a printed event on a processor (0 where it is on none), a silent wait of the fresh job of this
+-- number, or a silent tick
 pub data Move : Type 0 where
   Prints : (processor : ℕ) → Event → Move
   Waits : ℕ → Move
@@ -142,8 +142,8 @@ is_due_before None b = false
 abbrev pub runs_longer : Seen → Seen → Bool
 runs_longer a b = is_due_before b.view.running a.view.running
 
--- the processor on which a fresh job is decided on: a free one, or else of those where it preempts the one whose running
--- job is due last, of several the smallest, or else any
+-- the processor on which a fresh job is decided on: a free one, or else of those where it preempts the one whose
+-- running job is due last, of several the smallest, or else any
 abbrev pub deciding : List Seen → Option Seen
 deciding all = free_one all or_try first runs_longer (filter is_preempted all) or_try front all
 
@@ -165,11 +165,12 @@ alarm k q = placed q (single.alarm k q.view q.view.running q.view.must_start)
 
 -- 7. nothing is left to do
 abbrev pub ending : State → Option Move
-ending s = then_some (list_all is_over (tasks_of s.jobs)) (Prints 0 (End (value_sum (filter is_done (tasks_of s.jobs)))))
+ending s = then_some (list_all is_over (tasks_of s.jobs))
+    (Prints 0 (End (value_sum (filter is_done (tasks_of s.jobs)))))
 
--- the step of a state, where the processors see this
-abbrev pub step_of : Rules → State → List Seen → Move
-step_of rules s all =
+-- the first of cases 1 to 6 that applies, where the processors see this, or what else is done
+abbrev pub urgent_or : Rules → List Seen → Move → Move
+urgent_or rules all other =
     first_some completion all
     or_else first_some resumption all
     or_else for_one dispatch (free_one all)
@@ -177,12 +178,15 @@ step_of rules s all =
     or_else for_one decision (deciding all)
     or_else for_one arrival (front all)
     or_else for_one (alarm rules.ratio) (least_valued all)
-    or_else ending s
-    or_else Ticks
+    or_else other
 
 -- the step of a state, on so many processors
 abbrev pub step : ℕ → Rules → State → Move
-step processors rules s = step_of rules s (all_seen processors rules.version s)
+step processors rules s = urgent_or rules (all_seen processors rules.version s) (ending s or_else Ticks)
+
+-- the step where further jobs may be fed
+abbrev pub open_step : ℕ → Rules → State → Move
+open_step processors rules s = urgent_or rules (all_seen processors rules.version s) Ticks
 
 -- the job in another role
 abbrev pub in_role : Placed → Role → Placed

@@ -1,9 +1,14 @@
 -- Who has the ticks of a run on several processors.
-use Rattle.std.specs.Prelude.{◌≡◌, ℕ, ◌≤◌, List, ◌==◌}
+use Rattle.std.specs.Prelude.{◌≡◌, ℕ, ◌≤◌, List, ◌==◌, ◌&&◌, nat_le, nat_lt, Bool, false}
 use Rattle.std.specs.List.{count_by}
 use Rattle.dover_model.specs.declared.events.Role.TheVariants.{Running}
+use Rattle.dover_model.specs.Instance.{Instance}
 use Rattle.dover_model.specs.Sound.{IsMember}
+use Rattle.dover_model.specs.Step as single
+use Rattle.dover_model.specs.JobFacts.{JobFacts}
+use Rattle.dover_model.specs.Underload as underload
 use Rattle.many_processors.specs.State.{Placed, State}
+use Rattle.many_processors.specs.Step.{Move, Prints, Waits, Ticks}
 
 -- some job runs on processor q
 abbrev pub SomeRunsOn : ℕ → State → Type 0
@@ -12,3 +17,17 @@ SomeRunsOn q s = (p : Placed) × IsMember p s.jobs × (p.task.role ≡ Running) 
 -- no number stands there twice
 abbrev pub AreDifferent : List ℕ → Type 0
 AreDifferent numbers = (n : ℕ) → count_by (λ m. n == m) numbers ≤ 1
+
+-- a take or an abandonment
+abbrev pub takes_or_abandons : Move → Bool
+takes_or_abandons (Prints q e) = underload.takes_or_abandons (single.Prints e)
+takes_or_abandons (Waits n) = false
+takes_or_abandons Ticks = false
+
+-- the tick is in the job's window
+abbrev pub crosses : ℕ → JobFacts → Bool
+crosses t j = nat_le j.release t && nat_lt t j.deadline
+
+-- no tick is in the windows of more jobs than so many
+abbrev pub FewAtOnce : ℕ → Instance → Type 0
+FewAtOnce processors J = (t : ℕ) → count_by (crosses t) J.jobs ≤ processors

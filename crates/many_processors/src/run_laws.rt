@@ -1,5 +1,6 @@
 //! Laws of a run on several processors, each a clause of a function that does nothing.
-ghost use Rattle.std.specs.Prelude.{◌≡◌, ℕ, ◌≤◌, ◌<◌, ◌+◌, ◌*◌, ◌⊎◌, length, [], true};
+ghost use Rattle.std.specs.Prelude.{◌≡◌, ℕ, ◌≤◌, ◌<◌, ◌+◌, ◌*◌, ◌⊎◌, length, [], true, false};
+ghost use Rattle.std.specs.List.{sum_by};
 ghost use Rattle.dover_model.specs.declared.events.Role.TheVariants.{Fresh, Waiting, Held, Done};
 ghost use Rattle.dover_model.specs.Common.{Instance, IsValid, IsMember, Each, numbered, is_due, left};
 ghost use Rattle.dover_model.specs.JobFacts.{JobFacts};
@@ -9,7 +10,7 @@ ghost use Rattle.many_processors.specs.Sound.{Keeps};
 ghost use Rattle.many_processors.specs.Run.{run, ran, printed, completed_value, HasEnd};
 ghost use Rattle.many_processors.specs.Schedules.{IsFor, is_named, worth};
 ghost use Rattle.many_processors.specs.Books.{given_at};
-ghost use Rattle.many_processors.specs.Ticks.{SomeRunsOn, AreDifferent};
+ghost use Rattle.many_processors.specs.Ticks.{SomeRunsOn, AreDifferent, FewAtOnce, takes_or_abandons};
 ghost use Rattle.many_processors.specs.Observed.{observed, end_state};
 
 /// - `sound_opening`, `sound_steps`: the opening is sound as each processor sees it, and each step of a valid instance
@@ -22,6 +23,8 @@ ghost use Rattle.many_processors.specs.Observed.{observed, end_state};
 /// - `in_window`: each tick that a job has is one of its window, from its release to its deadline.
 /// - `none_free`: in each tick in which a job is fresh or waits, a job runs on each processor.
 /// - `none_holds`: in each tick in which a job is held, a job runs on its processor.
+/// - `none_lost`, `all_value`: where no tick is in the windows of more jobs than there are processors, none is taken
+///   late or abandoned, and the run has the value of all.
 /// - `honest`: the value that a run ends with is what its own schedule is worth, by the works as the run observed them.
 /// - `done`: a job that is completed had all its work, or had come to a finish of its own.
 /// - `as_declared`: where no job finishes early, the works that the run observed are the declared ones.
@@ -45,6 +48,10 @@ pub fn laws_of_runs()
     ensures none_holds { (processors : ℕ) (J : Instance) → 1 ≤ processors → IsValid J
         → Each (λ x. x.move ≡ Ticks → Each (λ p. p.task.role ≡ Held → SomeRunsOn p.owner x.before) x.before.jobs)
         (run processors J) }
+    ensures none_lost { (processors : ℕ) (J : Instance) → 1 ≤ processors → IsValid J → FewAtOnce processors J
+        → Each (λ x. takes_or_abandons x.move ≡ false) (run processors J) }
+    ensures all_value { (processors : ℕ) (J : Instance) → 1 ≤ processors → IsValid J → FewAtOnce processors J
+        → completed_value processors J ≡ sum_by (λ j. j.value) J.jobs }
     ensures honest { (processors : ℕ) (J : Instance) → 1 ≤ processors → IsValid J
         → worth (numbered (observed processors J)) (ran processors J) ≡ completed_value processors J }
     ensures done { (processors : ℕ) (J : Instance) → 1 ≤ processors → IsValid J

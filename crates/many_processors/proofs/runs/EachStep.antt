@@ -1,11 +1,13 @@
 -- What holds of each step from a state of a run, what a run carries to its end, and what is so in each tick.
 use Rattle.std.proofs.Common.{◌≡◌, ℕ, suc, zero, ◌≤◌, ◌<◌, ◌⊎◌, inl, inr, List, [], map, refl, sym, ap, ◌∙◌, subst}
 use Rattle.std.proofs.Common.{Bool, true, false, None}
-use Rattle.dover_model.specs.declared.events.Event.TheVariants.{End}
+use Rattle.std.specs.List.{list_all}
+use Rattle.dover_model.specs.declared.events.Event.TheVariants.{Run, Preempt, Take, Complete, Abandon, End, Release}
 use Rattle.dover_model.specs.declared.events.Task.{Task}
 use Rattle.dover_model.specs.declared.events.Role.TheVariants.{Fresh, Waiting, Held, Running}
 use Rattle.dover_model.specs.Fraction.{Fraction}
-use Rattle.dover_model.specs.Common.{Rules, Instance, IsValid, View, is_privileged, is_ready_behind, IsMember, Each, NoneRuns, is_complete}
+use Rattle.dover_model.specs.Common.{Rules, Instance, IsValid, View, is_privileged, is_ready_behind, IsMember, Each}
+use Rattle.dover_model.specs.Common.{NoneRuns, is_complete, is_over}
 use Rattle.dover_model.specs.Step as single
 use Rattle.dover_model.proofs.lists.Tests.{never}
 use Rattle.dover_model.proofs.lists.Members.{map_member}
@@ -13,7 +15,7 @@ use Rattle.dover_model.proofs.steps.Cases.{Case, Completes, Resumes, Starts, Beg
 use Rattle.dover_model.proofs.steps.Cases.{Abandons, Rests}
 use Rattle.dover_model.proofs.steps.Roles.{passes}
 use Rattle.dover_model.proofs.steps.Ticking.{Quiet}
-use Rattle.many_processors.specs.State.{Placed, State, seen_by, seen_from, opening}
+use Rattle.many_processors.specs.State.{Placed, State, tasks_of, seen_by, seen_from, opening}
 use Rattle.many_processors.specs.Step.{Move, Ticks, on, Seen, all_seen, step, after, completion, completion_of}
 use Rattle.many_processors.specs.Run as many
 use Rattle.many_processors.specs.Run.{run_from, run, is_end, enough}
@@ -66,6 +68,18 @@ no_tick k v q n (Takes r x settles stale ahead late heavy) = refl
 no_tick k v q n (Abandons r x settles stale ahead late light) = refl
 no_tick k v q n (Rests ro settles stale ahead quiet) = refl
 
+-- what one processor does is no End
+pub acts_go_on : (q : ℕ) (n : single.Move) → cases.is_ending n ≡ false → is_end (on q n) ≡ false
+acts_go_on q (single.Prints (End value)) h = never (sym h)
+acts_go_on q (single.Prints (Release n job)) h = refl
+acts_go_on q (single.Prints (Run at n)) h = refl
+acts_go_on q (single.Prints (Preempt at r n)) h = refl
+acts_go_on q (single.Prints (Take at r n)) h = refl
+acts_go_on q (single.Prints (Complete at n)) h = refl
+acts_go_on q (single.Prints (Abandon at n)) h = refl
+acts_go_on q (single.Waits n) h = refl
+acts_go_on q single.Ticks h = refl
+
 -- where no job has nothing left, none completes so
 pub no_completion : (k : Fraction) (q : Seen) → completion q ≡ None → (n : single.Move)
     → Case k q.view (single.Prints (End 0)) n → is_complete n ≡ false
@@ -81,22 +95,33 @@ no_completion k q going n (Takes r x settles stale ahead late heavy) = refl
 no_completion k q going n (Abandons r x settles stale ahead late light) = refl
 no_completion k q going n (Rests ro settles stale ahead quiet) = refl
 
+-- where the run may not end, no step is End
+pub open_goes_on : {rules : Rules} {s : State} {all : List Seen} (m : Move) → StepCase false rules s all m
+    → is_end m ≡ false
+open_goes_on m (cases.Completed q member t runs finished) = refl
+open_goes_on m (cases.Acted q member n acts going decided) = ap is_end acts.is
+    ∙ acts_go_on q.processor acts.move acts.goes_on
+open_goes_on m (cases.Abandoned q member n acts it going light) = ap is_end it.is
+open_goes_on m (cases.Ended may over) = never may
+open_goes_on m (cases.Rested quiet unended) = refl
+
 -- where a tick passes, no other case applies
-pub tick_quiet : (rules : Rules) (s : State) (all : List Seen) (m : Move) → StepCase rules s all m → m ≡ Ticks
-    → IsQuiet rules s all
-tick_quiet rules s all m (cases.Completed q member t runs finished) e = never (ap is_tick e)
-tick_quiet rules s all m (cases.Acted q member n acts going decided) e =
+pub tick_quiet : (may_end : Bool) (rules : Rules) (s : State) (all : List Seen) (m : Move)
+    → StepCase may_end rules s all m → m ≡ Ticks
+    → IsQuiet rules s all × (may_end ≡ true → list_all is_over (tasks_of s.jobs) ≡ false)
+tick_quiet may_end rules s all m (cases.Completed q member t runs finished) e = never (ap is_tick e)
+tick_quiet may_end rules s all m (cases.Acted q member n acts going decided) e =
     never (sym (no_tick rules.ratio q.view q.processor acts.move acts.case) ∙ sym (ap is_tick acts.is) ∙ ap is_tick e)
-tick_quiet rules s all m (cases.Abandoned q member n acts it going light) e =
+tick_quiet may_end rules s all m (cases.Abandoned q member n acts it going light) e =
     never (sym (ap is_tick it.is) ∙ ap is_tick e)
-tick_quiet rules s all m (cases.Ended over) e = never (ap is_tick e)
-tick_quiet rules s all m (cases.Rested quiet) e = quiet
+tick_quiet may_end rules s all m (cases.Ended may over) e = never (ap is_tick e)
+tick_quiet may_end rules s all m (cases.Rested quiet unended) e = (quiet, unended)
 
 module _ (processors : ℕ) (J : Instance) (valid : IsValid J) (some : 1 ≤ processors) (s : State)
     (keeps : Keeps processors J s) where
   pub quiet_at : step processors J.rules s ≡ Ticks → IsQuiet J.rules s (all_seen processors J.rules.version s)
-  quiet_at ticks = tick_quiet J.rules s (all_seen processors J.rules.version s) (step processors J.rules s)
-      (step_case J.rules s (all_seen processors J.rules.version s) (each_sees processors J.rules.version s)) ticks
+  quiet_at ticks = (tick_quiet true J.rules s (all_seen processors J.rules.version s) (step processors J.rules s)
+      (step_case J.rules s (all_seen processors J.rules.version s) (each_sees processors J.rules.version s)) ticks).0
 
   module _ (ticks : step processors J.rules s ≡ Ticks) (q : ℕ) (low : q < processors) where
     quiet : Quiet (seen_from q s)

@@ -6,10 +6,9 @@ use Rattle.std.specs.List.{list_any, list_all}
 use Rattle.dover_model.specs.declared.events.Event.TheVariants.{Run, Preempt, Take, Complete, Abandon, End, Release}
 use Rattle.dover_model.specs.Run.{value_of_end}
 use Rattle.dover_model.specs.Common.{Rules, Instance, IsValid, is_done, is_over, value_sum}
-use Rattle.dover_model.specs.Step as single
 use Rattle.dover_model.proofs.lists.Tests.{never}
 use Rattle.many_processors.specs.State.{State, tasks_of}
-use Rattle.many_processors.specs.Step.{Move, Prints, Waits, Ticks, on, Seen, all_seen, after, step}
+use Rattle.many_processors.specs.Step.{Move, Prints, Waits, Ticks, Seen, all_seen, after, step}
 use Rattle.many_processors.specs.Run as many
 use Rattle.many_processors.specs.Run.{run_from, is_end, event_of, HasEnd, tick_of, numbers_running}
 use Rattle.many_processors.specs.Sound.{Keeps}
@@ -17,6 +16,7 @@ use Rattle.many_processors.proofs.steps.Seeing.{each_sees}
 use Rattle.many_processors.proofs.steps.Cases as cases
 use Rattle.many_processors.proofs.steps.Cases.{StepCase, step_case}
 use Rattle.many_processors.proofs.steps.Turns.{step_kept}
+use Rattle.many_processors.proofs.runs.EachStep.{acts_go_on}
 
 -- what ticks were given to after a move
 abbrev pub ran_after : List (List ℕ) → State → Move → List (List ℕ)
@@ -25,25 +25,15 @@ ran_after ran s (Waits n) = ran
 ran_after ran s Ticks = ran ++ numbers_running s ∷ []
 
 -- only an End ends a run
-end_is : (rules : Rules) (s : State) (all : List Seen) (m : Move) → StepCase rules s all m → is_end m ≡ true
+end_is : (rules : Rules) (s : State) (all : List Seen) (m : Move) → StepCase true rules s all m → is_end m ≡ true
     → (list_all is_over (tasks_of s.jobs) ≡ true)
     × (m ≡ Prints 0 (End (value_sum (filter is_done (tasks_of s.jobs)))))
 end_is rules s all m (cases.Completed q member t served finished) e = never e
-end_is rules s all m (cases.Acted q member n acts going decided) e = never (sym (no_end acts.move acts.goes_on)
-    ∙ sym (ap is_end acts.is) ∙ e) where
-      no_end : (n : single.Move) → cases.is_ending n ≡ false → is_end (on q.processor n) ≡ false
-      no_end (single.Prints (End value)) h = never (sym h)
-      no_end (single.Prints (Release n job)) h = refl
-      no_end (single.Prints (Run at n)) h = refl
-      no_end (single.Prints (Preempt at r n)) h = refl
-      no_end (single.Prints (Take at r n)) h = refl
-      no_end (single.Prints (Complete at n)) h = refl
-      no_end (single.Prints (Abandon at n)) h = refl
-      no_end (single.Waits n) h = refl
-      no_end single.Ticks h = refl
+end_is rules s all m (cases.Acted q member n acts going decided) e =
+    never (sym (acts_go_on q.processor acts.move acts.goes_on) ∙ sym (ap is_end acts.is) ∙ e)
 end_is rules s all m (cases.Abandoned q member n acts it going light) e = never (sym (ap is_end it.is) ∙ e)
-end_is rules s all m (cases.Ended over) e = (over, refl)
-end_is rules s all m (cases.Rested quiet) e = never e
+end_is rules s all m (cases.Ended may over) e = (over, refl)
+end_is rules s all m (cases.Rested quiet unended) e = never e
 
 -- what a run comes to
 abbrev pub value_printed : List many.Step → ℕ
@@ -102,10 +92,10 @@ module _ (processors : ℕ) (some : 1 ≤ processors) (J : Instance) (valid : Is
       (step_kept processors J valid some J.rules s keeps)
       (onward ran s keeps holds) (is_end (step processors J.rules s)) refl ends
       (outcome more (after s (step processors J.rules s)) (ran_after ran s (step processors J.rules s))) where
-        the_case : StepCase J.rules s (all_seen processors J.rules.version s) (step processors J.rules s)
+        the_case : StepCase true J.rules s (all_seen processors J.rules.version s) (step processors J.rules s)
         the_case = step_case J.rules s (all_seen processors J.rules.version s) (each_sees processors J.rules.version s)
 
-        by_end : (m : Move) → StepCase J.rules s (all_seen processors J.rules.version s) m
+        by_end : (m : Move) → StepCase true J.rules s (all_seen processors J.rules.version s) m
             → Keeps processors J (after s m) → Holds (ran_after ran s m) (after s m)
             → (b : Bool) → is_end m ≡ b
             → list_any (λ x. is_end x.move) (record { before = s; move = m }

@@ -6,22 +6,26 @@ use Rattle.std.proofs.Common.{nat_lt, ltb-true, ltb-false}
 use Rattle.std.specs.List.{list_all}
 use Rattle.dover_model.specs.declared.events.Event.TheVariants.{Run, Preempt, Take, Complete, Abandon, End, Release}
 use Rattle.dover_model.specs.declared.events.Task.{Task}
-use Rattle.dover_model.specs.Common.{Rules, Fraction, Finish, IsMember, Each, IsHeavy, is_heavy, first, earlier, is_over, is_done}
+use Rattle.dover_model.specs.Common.{Rules, Fraction, Finish, IsMember, Each, IsHeavy, is_heavy, first, earlier}
+use Rattle.dover_model.specs.Common.{is_over, is_done}
 use Rattle.dover_model.specs.State.{value_sum}
-use Rattle.dover_model.specs.Common.{waiting_order, by_density, left, View, is_waiting, starts_before, is_at_latest_start}
+use Rattle.dover_model.specs.Common.{waiting_order, by_density, left, View, is_waiting, starts_before}
+use Rattle.dover_model.specs.Common.{is_at_latest_start}
 use Rattle.dover_model.specs.Finishes.{has_come_to, is_due}
 use Rattle.dover_model.specs.Step as single
 use Rattle.dover_model.proofs.lists.Tests.{never, none_is_some}
 use Rattle.dover_model.proofs.lists.Members.{some_same, found, not_found, member_filter, reduce_least, reduce_none}
 use Rattle.dover_model.proofs.lists.FirstOfTasks.{first_member}
-use Rattle.dover_model.proofs.steps.Cases.{Settles, Busy, Free, NoneArrives, Case, Resumes, Starts, Begins, Preempts, Stays}
+use Rattle.dover_model.proofs.steps.Cases.{Settles, Busy, Free, NoneArrives, Case, Resumes, Starts, Begins, Preempts}
+use Rattle.dover_model.proofs.steps.Cases.{Stays}
 use Rattle.dover_model.proofs.steps.Cases.{Arrives, Takes, Abandons}
 use Rattle.dover_model.proofs.bound.Calculus.{heavy_mono}
 use Rattle.many_processors.specs.State.{State, tasks_of}
 use Rattle.many_processors.specs.Step.{Move, Prints, Ticks, on, Seen, front, ◌or_else◌, ◌or_try◌, first_some}
 use Rattle.many_processors.specs.Step.{for_one, placed, is_none, is_free, free_one, completion_of, finish_on, finishing}
-use Rattle.many_processors.specs.Step.{completion, resumption_of, resumption, dispatch, deciding, decision, arrival, alarm}
-use Rattle.many_processors.specs.Step.{least_valued, ending, step_of, is_preempted, runs_longer}
+use Rattle.many_processors.specs.Step.{completion, resumption_of, resumption, dispatch, deciding, decision, arrival}
+use Rattle.many_processors.specs.Step.{alarm}
+use Rattle.many_processors.specs.Step.{least_valued, ending, urgent_or, is_preempted, runs_longer}
 use Rattle.many_processors.proofs.steps.Seeing.{Sees, whole}
 
 -- ---- answers
@@ -111,8 +115,8 @@ abbrev pub is_ending : single.Move → Bool
 is_ending (single.Prints (End value)) = true
 is_ending _ = false
 
--- the case of one processor that a move is, an abandonment or not. (What is done where none applies is out of reach: the
--- end of a run.)
+-- the case of one processor that a move is, an abandonment or not. (What is done where none applies is out of reach:
+-- the end of a run.)
 pub record Acts (k : Fraction) (q : Seen) (gone : Bool) (m : Move) : Type 0 where
   pub move : single.Move
   pub is : m ≡ on q.processor move
@@ -160,7 +164,8 @@ none_finishes (f ∷ finishes) all none q member t runs =
       both = try_none (finishing all f) (first_some (finishing all) finishes) none
 
       here : finish_on f q (Some t) ≡ None
-      here = subst (λ o. finish_on f q o ≡ None) runs (unanswered (λ q. finish_on f q q.view.running) all both.0 q member)
+      here = subst (λ o. finish_on f q o
+          ≡ None) runs (unanswered (λ q. finish_on f q q.view.running) all both.0 q member)
 
 -- the move gives a processor to a job that waits or is held on it
 abbrev pub is_run : Move → Bool
@@ -334,7 +339,8 @@ module _ (k : Fraction) (q : Seen) where
     by_parts (Some r) (Some f) none = none_is_some (sym none)
 
   -- a job is released
-  arrival_acts : (m : Move) → Settles q.view q.view.running → q.view.fresh ≡ None → arrival q ≡ Some m → Acts k q false m
+  arrival_acts : (m : Move) → Settles q.view q.view.running → q.view.fresh ≡ None → arrival q ≡ Some m
+      → Acts k q false m
   arrival_acts m settles stale some = by_coming q.view.coming refl some where
     by_coming : (c : Option Task) → q.view.coming ≡ c → placed q (single.arrival q.view c) ≡ Some m → Acts k q false m
     by_coming None e some = none_is_some some
@@ -367,12 +373,18 @@ pub record Goes (k : Fraction) (q : Seen) (m : Move) : Type 0 where
   pub light : is_heavy k job.job.value q.view.privileged_value ≡ false
   pub is : m ≡ Prints q.processor (Abandon q.view.clock job.number)
 
+-- there is one
+abbrev IsSomeOne : Option Task → Type 0
+IsSomeOne o = (x : Task) × (o ≡ Some x)
+
 -- a job is at its latest start: one takes, or one goes
 alarm_acts : (k : Fraction) (q : Seen) (m : Move) → Settles q.view q.view.running → q.view.fresh ≡ None
-    → NoneArrives q.view q.view.coming → alarm k q ≡ Some m → (Acts k q false m) ⊎ (Acts k q true m × Goes k q m)
+    → NoneArrives q.view q.view.coming → alarm k q ≡ Some m
+    → (Acts k q false m × IsSomeOne q.view.must_start) ⊎ (Acts k q true m × Goes k q m)
 alarm_acts k q m settles stale ahead some = by_parts q.view.running q.view.must_start settles refl some where
   by_parts : (ro x : Option Task) → Settles q.view ro → q.view.must_start ≡ x
-      → placed q (single.alarm k q.view ro x) ≡ Some m → (Acts k q false m) ⊎ (Acts k q true m × Goes k q m)
+      → placed q (single.alarm k q.view ro x) ≡ Some m → (Acts k q false m × IsSomeOne q.view.must_start)
+      ⊎ (Acts k q true m × Goes k q m)
   by_parts ro None settles late some = none_is_some some
   by_parts None (Some x) settles late some = none_is_some some
   by_parts (Some r) (Some x) settles late some =
@@ -380,14 +392,17 @@ alarm_acts k q m settles stale ahead some = by_parts q.view.running q.view.must_
         by_value : (b : Bool) → is_heavy k x.job.value q.view.privileged_value ≡ b
             → placed q (Some (single.Prints (cond b (Take q.view.clock r.number x.number)
             (Abandon q.view.clock x.number)))) ≡ Some m
-            → (Acts k q false m) ⊎ (Acts k q true m × Goes k q m)
-        by_value true heavy some = inl (record {
-          move = single.Prints (Take q.view.clock r.number x.number);
-          is = sym (some_same _ _ some);
-          kind = refl;
-          goes_on = refl;
-          case = Takes r x settles stale ahead late heavy;
-        })
+            → (Acts k q false m × IsSomeOne q.view.must_start) ⊎ (Acts k q true m × Goes k q m)
+        by_value true heavy some = inl (
+          record {
+            move = single.Prints (Take q.view.clock r.number x.number);
+            is = sym (some_same _ _ some);
+            kind = refl;
+            goes_on = refl;
+            case = Takes r x settles stale ahead late heavy;
+          },
+          (x, late),
+        )
         by_value false light some = inr (
           record {
             move = single.Prints (Abandon q.view.clock x.number);
@@ -433,31 +448,32 @@ pub record IsQuiet (rules : Rules) (s : State) (all : List Seen) : Type 0 where
   pub stale : Each (λ q. q.view.fresh ≡ None) all
   pub ahead : Each (λ q. NoneArrives q.view q.view.coming) all
   pub early : Each (λ q. q.view.must_start ≡ None) all
-  pub unended : list_all is_over (tasks_of s.jobs) ≡ false
 
 -- no running job has come to a finish
 abbrev pub NoneDue : Rules → List Seen → Type 0
 NoneDue rules all = Each (λ q. (t : Task) → q.view.running ≡ Some t → is_due rules.finishes t ≡ false) all
 
--- a move of cases 2 and 3, or one behind them, where a take is one of the processor of least value
+-- a move of cases 2 and 3, or one behind them, where a take is one of the processor of least value while none is free
 abbrev pub IsDecided : Rules → Seen → List Seen → Move → Type 0
 IsDecided rules q all m = (is_run m ≡ true) ⊎ (NoneDue rules all × ((is_take m ≡ false)
-    ⊎ Each (λ o. q.view.privileged_value ≤ o.view.privileged_value) all))
+    ⊎ Each (λ o. (is_free o ≡ false) × (q.view.privileged_value ≤ o.view.privileged_value)) all))
 
--- which case applies
-pub data StepCase (rules : Rules) (s : State) (all : List Seen) : Move → Type 0 where
+-- which case applies, where the run may end or not
+pub data StepCase (may_end : Bool) (rules : Rules) (s : State) (all : List Seen) : Move → Type 0 where
   Completed : (q : Seen) → IsMember q all → (t : Task) → q.view.running ≡ Some t
       → is_finished rules.finishes t ≡ true
-      → StepCase rules s all (Prints q.processor (Complete q.view.clock t.number))
+      → StepCase may_end rules s all (Prints q.processor (Complete q.view.clock t.number))
   Acted : (q : Seen) → IsMember q all → (m : Move) → Acts rules.ratio q false m
-      → Each (λ o. completion o ≡ None) all → IsDecided rules q all m → StepCase rules s all m
+      → Each (λ o. completion o ≡ None) all → IsDecided rules q all m
+      → StepCase may_end rules s all m
   Abandoned : (q : Seen) → IsMember q all → (m : Move) → Acts rules.ratio q true m → (it : Goes rules.ratio q m)
       → Each (λ o. completion o ≡ None) all
       → Each (λ o. (is_free o ≡ false) × (IsHeavy rules.ratio it.job.job.value o.view.privileged_value → ⊥)) all
-      → StepCase rules s all m
-  Ended : list_all is_over (tasks_of s.jobs) ≡ true
-      → StepCase rules s all (Prints 0 (End (value_sum (filter is_done (tasks_of s.jobs)))))
-  Rested : IsQuiet rules s all → StepCase rules s all Ticks
+      → StepCase may_end rules s all m
+  Ended : may_end ≡ true → list_all is_over (tasks_of s.jobs) ≡ true
+      → StepCase may_end rules s all (Prints 0 (End (value_sum (filter is_done (tasks_of s.jobs)))))
+  Rested : IsQuiet rules s all → (may_end ≡ true → list_all is_over (tasks_of s.jobs) ≡ false)
+      → StepCase may_end rules s all Ticks
 
 module _ (rules : Rules) (s : State) (all : List Seen) (sees : Each (Sees rules.version s) all) where
   -- the free one is one of them, and free
@@ -561,11 +577,14 @@ module _ (rules : Rules) (s : State) (all : List Seen) (sees : Each (Sees rules.
         by_alarm it.0 (least_is it.0 it.1).0 (alarm_none rules.ratio it.0 here)
 
   -- an answer of case 6
-  alarm_case : (m : Move) → Each (λ q. completion q ≡ None) all → NoneDue rules all → Each (λ q. Settles q.view q.view.running) all → Each (λ q. q.view.fresh ≡ None) all
-      → Each (λ q. NoneArrives q.view q.view.coming) all → Each (λ q. is_free q ≡ true → q.view.first_waiting ≡ None) all
-      → for_one (alarm rules.ratio) (least_valued all) ≡ Some m → StepCase rules s all m
-  alarm_case m going calm settles stale ahead waits some =
-      by_kind (alarm_acts rules.ratio one.0 m (settles one.0 least.0) (stale one.0 least.0) (ahead one.0 least.0) one.2) where
+  alarm_case : (may_end : Bool) (m : Move) → Each (λ q. completion q ≡ None) all → NoneDue rules all
+      → Each (λ q. Settles q.view q.view.running) all → Each (λ q. q.view.fresh ≡ None) all
+      → Each (λ q. NoneArrives q.view q.view.coming) all
+      → Each (λ q. is_free q ≡ true → q.view.first_waiting ≡ None) all
+      → for_one (alarm rules.ratio) (least_valued all) ≡ Some m → StepCase may_end rules s all m
+  alarm_case may_end m going calm settles stale ahead waits some =
+      by_kind (alarm_acts rules.ratio one.0 m (settles one.0 least.0) (stale one.0 least.0) (ahead one.0 least.0)
+      one.2) where
         one : (x : Seen) × (least_valued all ≡ Some x) × (alarm rules.ratio x ≡ Some m)
         one = for_some (alarm rules.ratio) (least_valued all) m some
 
@@ -573,7 +592,7 @@ module _ (rules : Rules) (s : State) (all : List Seen) (sees : Each (Sees rules.
         least = least_is one.0 one.1
 
         -- a free processor would have the job
-        none_free : (it : Goes rules.ratio one.0 m) → Each (λ o. is_free o ≡ false) all
+        none_free : IsSomeOne one.0.view.must_start → Each (λ o. is_free o ≡ false) all
         none_free it o o_member = by_test (is_free o) refl where
           none_first : (ts : List Task)
               → first (waiting_order rules.version (by_density rules.version s.pressed)) ts ≡ None
@@ -585,94 +604,96 @@ module _ (rules : Rules) (s : State) (all : List Seen) (sees : Each (Sees rules.
           by_test false e = e
           by_test true e = none_is_some (sym (none_first (filter is_waiting (tasks_of s.jobs))
               (sym (sees o o_member).first_waiting ∙ waits o o_member e))
-              ∙ sym (sees one.0 least.0).must_start ∙ it.late)
+              ∙ sym (sees one.0 least.0).must_start ∙ it.1)
 
-        by_kind : (Acts rules.ratio one.0 false m) ⊎ (Acts rules.ratio one.0 true m × Goes rules.ratio one.0 m)
-            → StepCase rules s all m
-        by_kind (inl acts) = Acted one.0 least.0 m acts going (inr (calm, inr least.1))
+        by_kind : (Acts rules.ratio one.0 false m × IsSomeOne one.0.view.must_start)
+            ⊎ (Acts rules.ratio one.0 true m × Goes rules.ratio one.0 m)
+            → StepCase may_end rules s all m
+        by_kind (inl it) = Acted one.0 least.0 m it.0 going
+            (inr (calm, inr (λ o o_member. (none_free it.1 o o_member, least.1 o o_member))))
         by_kind (inr it) = Abandoned one.0 least.0 m it.0 it.1 going (λ o o_member. (
-          none_free it.1 o o_member,
+          none_free (it.1.job, it.1.late) o o_member,
           λ heavy. never (sym it.1.light ∙ heavy_mono rules.ratio it.1.job.job.value one.0.view.privileged_value
               o.view.privileged_value (least.1 o o_member) heavy),
         ))
 
-  -- some case applies
-  pub step_case : StepCase rules s all (step_of rules s all)
-  step_case = from_first (step_of rules s all) refl where
+  -- some case applies, where what is done else is one
+  step_case_by : (may_end : Bool) (other : Move) → (IsQuiet rules s all → StepCase may_end rules s all other)
+      → StepCase may_end rules s all (urgent_or rules all other)
+  step_case_by may_end other at_rest = from_first (urgent_or rules all other) refl where
     from_rest : (m : Move) → Each (λ q. completion q ≡ None) all
         → Each (λ q. q.view.running ≡ None → q.view.first_held ≡ None) all
         → Each (λ q. is_free q ≡ true → q.view.first_waiting ≡ None) all → Each (λ q. Settles q.view q.view.running) all
         → Each (λ q. q.view.fresh ≡ None) all → Each (λ q. NoneArrives q.view q.view.coming) all
-        → (for_one (alarm rules.ratio) (least_valued all) ≡ None) × ((ending s or_else Ticks) ≡ m)
-        → StepCase rules s all m
-    from_rest m going holding waits settles stale ahead it = by_end (or_split (ending s) Ticks m it.1) where
-      by_end : (ending s ≡ Some m) ⊎ ((ending s ≡ None) × (Ticks ≡ m)) → StepCase rules s all m
-      by_end (inl some) = let over = then_parts (list_all is_over (tasks_of s.jobs)) _ m some in
-          subst (StepCase rules s all) over.1 (Ended over.0)
-      by_end (inr rest) = subst (StepCase rules s all) rest.1 (Rested (record {
-        going = going;
-        settles = settles;
-        holding = holding;
-        waiting = waits;
-        stale = stale;
-        ahead = ahead;
-        early = none_late waits it.0;
-        unended = then_none _ _ rest.0;
-      }))
+        → (for_one (alarm rules.ratio) (least_valued all) ≡ None) × (other ≡ m)
+        → StepCase may_end rules s all m
+    from_rest m going holding waits settles stale ahead it = subst (StepCase may_end rules s all) it.1
+        (at_rest (record {
+          going = going;
+          settles = settles;
+          holding = holding;
+          waiting = waits;
+          stale = stale;
+          ahead = ahead;
+          early = none_late waits it.0;
+        }))
 
     from_fourth : (m : Move) → Each (λ q. completion q ≡ None) all → NoneDue rules all
         → Each (λ q. q.view.running ≡ None → q.view.first_held ≡ None) all
         → Each (λ q. is_free q ≡ true → q.view.first_waiting ≡ None) all → Each (λ q. Settles q.view q.view.running) all
         → (for_one decision (deciding all) or_else for_one arrival (front all)
-        or_else for_one (alarm rules.ratio) (least_valued all) or_else ending s or_else Ticks) ≡ m → StepCase rules s all m
-    from_fourth m going calm holding waits settles is = by_fourth (or_split (for_one decision (deciding all)) _ m is) where
-      by_sixth : Each (λ q. q.view.fresh ≡ None) all → Each (λ q. NoneArrives q.view q.view.coming) all
-          → (for_one (alarm rules.ratio) (least_valued all) ≡ Some m)
-          ⊎ ((for_one (alarm rules.ratio) (least_valued all) ≡ None)
-          × ((ending s or_else Ticks) ≡ m))
-          → StepCase rules s all m
-      by_sixth stale ahead (inl some) = alarm_case m going calm settles stale ahead waits some
-      by_sixth stale ahead (inr it) = from_rest m going holding waits settles stale ahead it
+        or_else for_one (alarm rules.ratio) (least_valued all) or_else other) ≡ m → StepCase may_end rules s all m
+    from_fourth m going calm holding waits settles is = by_fourth
+        (or_split (for_one decision (deciding all)) _ m is) where
+          by_sixth : Each (λ q. q.view.fresh ≡ None) all → Each (λ q. NoneArrives q.view q.view.coming) all
+              → (for_one (alarm rules.ratio) (least_valued all) ≡ Some m)
+              ⊎ ((for_one (alarm rules.ratio) (least_valued all) ≡ None)
+              × (other ≡ m))
+              → StepCase may_end rules s all m
+          by_sixth stale ahead (inl some) = alarm_case may_end m going calm settles stale ahead waits some
+          by_sixth stale ahead (inr it) = from_rest m going holding waits settles stale ahead it
 
-      by_fifth : Each (λ q. q.view.fresh ≡ None) all → (for_one arrival (front all) ≡ Some m)
-          ⊎ ((for_one arrival (front all) ≡ None)
-          × ((for_one (alarm rules.ratio) (least_valued all) or_else ending s or_else Ticks) ≡ m))
-          → StepCase rules s all m
-      by_fifth stale (inl some) = let one = for_some arrival (front all) m some in
-          let member : IsMember one.0 all = front_member all one.0 one.1 in
-          Acted one.0 member m (arrival_acts rules.ratio one.0 m (settles one.0 member) (stale one.0 member) one.2) going
-          (inr (calm, inl (arrival_takes one.0 m one.2)))
-      by_fifth stale (inr it) = by_sixth stale (none_arrives it.0)
-          (or_split (for_one (alarm rules.ratio) (least_valued all)) _ m it.1)
+          by_fifth : Each (λ q. q.view.fresh ≡ None) all → (for_one arrival (front all) ≡ Some m)
+              ⊎ ((for_one arrival (front all) ≡ None)
+              × ((for_one (alarm rules.ratio) (least_valued all) or_else other) ≡ m))
+              → StepCase may_end rules s all m
+          by_fifth stale (inl some) = let one = for_some arrival (front all) m some in
+              let member : IsMember one.0 all = front_member all one.0 one.1 in
+              Acted one.0 member m (arrival_acts rules.ratio one.0 m (settles one.0 member) (stale one.0 member) one.2)
+              going
+              (inr (calm, inl (arrival_takes one.0 m one.2)))
+          by_fifth stale (inr it) = by_sixth stale (none_arrives it.0)
+              (or_split (for_one (alarm rules.ratio) (least_valued all)) _ m it.1)
 
-      by_fourth : (for_one decision (deciding all) ≡ Some m)
-          ⊎ ((for_one decision (deciding all) ≡ None)
-          × ((for_one arrival (front all) or_else for_one (alarm rules.ratio) (least_valued all) or_else ending s or_else Ticks) ≡ m))
-          → StepCase rules s all m
-      by_fourth (inl some) = let one = for_some decision (deciding all) m some in
-          let member : IsMember one.0 all = deciding_member one.0 one.1 in
-          Acted one.0 member m (decision_acts rules.ratio one.0 m (settles one.0 member) one.2) going
-          (inr (calm, inl (decision_takes one.0 m one.2)))
-      by_fourth (inr it) = by_fifth (none_fresh it.0) (or_split (for_one arrival (front all)) _ m it.1)
+          by_fourth : (for_one decision (deciding all) ≡ Some m)
+              ⊎ ((for_one decision (deciding all) ≡ None)
+              × ((for_one arrival (front all) or_else for_one (alarm rules.ratio) (least_valued all)
+              or_else other) ≡ m))
+              → StepCase may_end rules s all m
+          by_fourth (inl some) = let one = for_some decision (deciding all) m some in
+              let member : IsMember one.0 all = deciding_member one.0 one.1 in
+              Acted one.0 member m (decision_acts rules.ratio one.0 m (settles one.0 member) one.2) going
+              (inr (calm, inl (decision_takes one.0 m one.2)))
+          by_fourth (inr it) = by_fifth (none_fresh it.0) (or_split (for_one arrival (front all)) _ m it.1)
 
     from_third : (m : Move) → Each (λ q. completion q ≡ None) all
         → Each (λ q. resumption q ≡ None) all
         → (for_one dispatch (free_one all) or_else first_some (finishing all) rules.finishes
         or_else for_one decision (deciding all)
-        or_else for_one arrival (front all) or_else for_one (alarm rules.ratio) (least_valued all) or_else ending s
-        or_else Ticks) ≡ m → StepCase rules s all m
+        or_else for_one arrival (front all) or_else for_one (alarm rules.ratio) (least_valued all) or_else other)
+        ≡ m → StepCase may_end rules s all m
     from_third m going holding is = by_third (or_split (for_one dispatch (free_one all)) _ m is) where
       by_finish : Each (λ q. is_free q ≡ true → q.view.first_waiting ≡ None) all
           → (first_some (finishing all) rules.finishes ≡ Some m)
           ⊎ ((first_some (finishing all) rules.finishes ≡ None)
           × ((for_one decision (deciding all) or_else for_one arrival (front all)
-          or_else for_one (alarm rules.ratio) (least_valued all) or_else ending s or_else Ticks) ≡ m))
-          → StepCase rules s all m
+          or_else for_one (alarm rules.ratio) (least_valued all) or_else other) ≡ m))
+          → StepCase may_end rules s all m
       by_finish waits (inl some) =
           let f = answered (finishing all) rules.finishes m some in
           let one = answered (λ q. finish_on f.0 q q.view.running) all m f.2 in
           let it = finish_acts rules.finishes f.0 f.1 one.0 m (one.0).view.running one.2 in
-          subst (StepCase rules s all) (sym it.3) (Completed one.0 one.1 it.0 it.1 it.2)
+          subst (StepCase may_end rules s all) (sym it.3) (Completed one.0 one.1 it.0 it.1 it.2)
       by_finish waits (inr it) = from_fourth m going (none_finishes rules.finishes all it.0)
           (λ q member free. resumption_none rules.ratio q (holding q member) free) waits
           (λ q member. settles_at rules.ratio q (going q member) (holding q member) (waits q member)) it.1
@@ -681,8 +702,8 @@ module _ (rules : Rules) (s : State) (all : List Seen) (sees : Each (Sees rules.
           ⊎ ((for_one dispatch (free_one all) ≡ None)
           × ((first_some (finishing all) rules.finishes or_else for_one decision (deciding all)
           or_else for_one arrival (front all)
-          or_else for_one (alarm rules.ratio) (least_valued all) or_else ending s or_else Ticks) ≡ m))
-          → StepCase rules s all m
+          or_else for_one (alarm rules.ratio) (least_valued all) or_else other) ≡ m))
+          → StepCase may_end rules s all m
       by_third (inl some) = let one = for_some dispatch (free_one all) m some in
           Acted one.0 (free_is one.0 one.1).0 m (dispatch_acts rules.ratio one.0 m one.2) going
           (inl (dispatch_runs one.0 m one.2))
@@ -691,28 +712,45 @@ module _ (rules : Rules) (s : State) (all : List Seen) (sees : Each (Sees rules.
     from_second : (m : Move) → Each (λ q. completion q ≡ None) all
         → (first_some resumption all or_else for_one dispatch (free_one all)
         or_else first_some (finishing all) rules.finishes or_else for_one decision (deciding all)
-        or_else for_one arrival (front all) or_else for_one (alarm rules.ratio) (least_valued all) or_else ending s or_else Ticks) ≡ m → StepCase rules s all m
+        or_else for_one arrival (front all) or_else for_one (alarm rules.ratio) (least_valued all) or_else other)
+        ≡ m → StepCase may_end rules s all m
     from_second m going is = by_second (or_split (first_some resumption all) _ m is) where
       by_second : (first_some resumption all ≡ Some m)
           ⊎ ((first_some resumption all ≡ None)
-          × ((for_one dispatch (free_one all) or_else first_some (finishing all) rules.finishes or_else for_one decision (deciding all)
-          or_else for_one arrival (front all) or_else for_one (alarm rules.ratio) (least_valued all) or_else ending s or_else Ticks) ≡ m))
-          → StepCase rules s all m
+          × ((for_one dispatch (free_one all) or_else first_some (finishing all) rules.finishes
+          or_else for_one decision (deciding all)
+          or_else for_one arrival (front all) or_else for_one (alarm rules.ratio) (least_valued all) or_else other)
+          ≡ m))
+          → StepCase may_end rules s all m
       by_second (inl some) = let one = answered resumption all m some in
           Acted one.0 one.1 m (resumption_acts rules.ratio one.0 m one.2) going
           (inl (resumption_runs one.0 m one.2))
       by_second (inr it) = from_third m going (unanswered resumption all it.0) it.1
 
-    from_first : (m : Move) → step_of rules s all ≡ m → StepCase rules s all m
+    from_first : (m : Move) → urgent_or rules all other ≡ m → StepCase may_end rules s all m
     from_first m is = by_first (or_split (first_some completion all) _ m is) where
       by_first : (first_some completion all ≡ Some m)
           ⊎ ((first_some completion all ≡ None)
           × ((first_some resumption all or_else for_one dispatch (free_one all)
           or_else first_some (finishing all) rules.finishes or_else for_one decision (deciding all)
-          or_else for_one arrival (front all) or_else for_one (alarm rules.ratio) (least_valued all) or_else ending s or_else Ticks) ≡ m))
-          → StepCase rules s all m
+          or_else for_one arrival (front all) or_else for_one (alarm rules.ratio) (least_valued all) or_else other)
+          ≡ m))
+          → StepCase may_end rules s all m
       by_first (inl some) =
           let one = answered completion all m some in
           let it = completion_acts rules.finishes one.0 m (one.0).view.running one.2 in
-          subst (StepCase rules s all) (sym it.3) (Completed one.0 one.1 it.0 it.1 it.2)
+          subst (StepCase may_end rules s all) (sym it.3) (Completed one.0 one.1 it.0 it.1 it.2)
       by_first (inr it) = from_second m (unanswered completion all it.0) it.1
+
+  -- some case applies to the step of a state
+  pub step_case : StepCase true rules s all (urgent_or rules all (ending s or_else Ticks))
+  step_case = step_case_by true (ending s or_else Ticks) (by_end (list_all is_over (tasks_of s.jobs)) refl) where
+    by_end : (b : Bool) → list_all is_over (tasks_of s.jobs) ≡ b → IsQuiet rules s all
+        → StepCase true rules s all
+        (then_some b (Prints 0 (End (value_sum (filter is_done (tasks_of s.jobs))))) or_else Ticks)
+    by_end true over quiet = Ended refl over
+    by_end false some quiet = Rested quiet (λ _. some)
+
+  -- and to the open one
+  pub open_case : StepCase false rules s all (urgent_or rules all Ticks)
+  open_case = step_case_by false Ticks (λ quiet. Rested quiet (λ e. never e))

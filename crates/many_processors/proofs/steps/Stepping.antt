@@ -1,6 +1,6 @@
 -- Every step of a valid instance on some processors keeps what every state keeps.
-use Rattle.std.proofs.Common.{◌≡◌, ℕ, ◌≤◌, ◌<◌, List, [], ◌∷◌, map, refl, sym, ap, ◌∙◌}
-use Rattle.std.proofs.Common.{subst, Bool, true, false, cond, ◌&&◌, ◌==◌}
+use Rattle.std.proofs.Common.{◌⊎◌, inl, inr, ◌≡◌, ℕ, ◌≤◌, ◌<◌, List, [], ◌∷◌, map, refl, sym, ap, ◌∙◌}
+use Rattle.std.proofs.Common.{subst, Bool, true, false, cond}
 use Rattle.std.proofs.Common.{eqb, eqb-true}
 use Rattle.std.proofs.lemmas.Bool.{eqb-false}
 use Rattle.dover_model.specs.declared.events.Event.{Event}
@@ -9,6 +9,7 @@ use Rattle.dover_model.specs.declared.events.Task.{Task}
 use Rattle.dover_model.specs.declared.events.Role.{Role}
 use Rattle.dover_model.specs.declared.events.Version.{Version}
 use Rattle.dover_model.specs.declared.events.Role.TheVariants.{Coming, Fresh, Waiting, Held, Running, Done, Gone}
+use Rattle.dover_model.specs.Underload.{abandons}
 use Rattle.dover_model.specs.JobFacts.{JobFacts}
 use Rattle.dover_model.specs.Common.{Fraction, is_privileged, left, with_role, is_complete}
 use Rattle.dover_model.specs.Common.{IsMember, Each, FitsRole, IsSound, Instance, IsValid, jobs_of}
@@ -17,13 +18,14 @@ use Rattle.dover_model.specs.Step as single
 use Rattle.dover_model.proofs.lists.Tests.{never}
 use Rattle.dover_model.proofs.lists.Members.{map_self}
 use Rattle.dover_model.proofs.steps.Roles.{passes}
-use Rattle.dover_model.proofs.steps.Deeds.{Realistic, Deed, Completed, Resumed, Started, Began, Preempted, Stayed, Arrived}
+use Rattle.dover_model.proofs.steps.Deeds.{Realistic, Deed, Completed, Resumed, Started, Began, Preempted, Stayed}
+use Rattle.dover_model.proofs.steps.Deeds.{Arrived}
 use Rattle.dover_model.proofs.steps.Deeds.{Taken, Abandoned, Rested, deed_of}
 use Rattle.dover_model.proofs.steps.Moves.{arrives}
 use Rattle.dover_model.proofs.steps.OneChange.{stays_sound}
 use Rattle.dover_model.proofs.steps.Kept.{deed_sound, realistic, end_same}
 use Rattle.many_processors.specs.State.{Placed, State, tasks_of, seen_by, seen_from}
-use Rattle.many_processors.specs.Step.{Move, Prints, Waits, on, placed_after, in_role, placed_on, seen}
+use Rattle.many_processors.specs.Step.{Move, Prints, Waits, on, placed_after, in_role, placed_on, is_own_of, seen}
 use Rattle.many_processors.specs.Step.{after}
 use Rattle.many_processors.specs.Sound.{Keeps}
 use Rattle.many_processors.proofs.steps.Cases.{Acts}
@@ -35,7 +37,8 @@ use Rattle.many_processors.proofs.steps.Keeping.{take_changed, jobs_stay, Change
 
 -- a state is sound by its clock and its tasks
 pub sound_of : (s t : one.State) → s.clock ≡ t.clock → s.tasks ≡ t.tasks → IsSound s → IsSound t
-sound_of s t same_clock same_tasks it = subst (λ c. IsSound (record { clock = c; tasks = t.tasks; pressed = t.pressed }))
+sound_of s t same_clock same_tasks it = subst
+    (λ c. IsSound (record { clock = c; tasks = t.tasks; pressed = t.pressed }))
     same_clock (subst (λ ts. IsSound (record { clock = s.clock; tasks = ts; pressed = t.pressed })) same_tasks
     (record {
       numbered = it.numbered;
@@ -49,67 +52,86 @@ sound_of s t same_clock same_tasks it = subst (λ c. IsSound (record { clock = c
       room = it.room;
     }))
 
--- a printed event changes no more of a job than its role
-pub event_task : (q : ℕ) (e : Event) (p : Placed) → (role : Role) × ((placed_after q e p).task ≡ with_role p.task role)
-event_task q (Release n job) p = by_test (eqb p.task.number n) where
-  by_test : (b : Bool) → (role : Role) × ((cond b (in_role p Fresh) p).task ≡ with_role p.task role)
-  by_test true = (Fresh, refl)
-  by_test false = (p.task.role, refl)
-event_task q (Run at n) p = by_test (eqb p.task.number n) where
-  by_test : (b : Bool) → (role : Role) × ((cond b (placed_on q p) p).task ≡ with_role p.task role)
-  by_test true = (Running, refl)
-  by_test false = (p.task.role, refl)
-event_task q (Preempt at r n) p = by_test (eqb p.task.number n) (eqb p.task.number r) where
-  by_test : (b c : Bool) → (role : Role)
-      × ((cond b (placed_on q p) (cond c (in_role p Held) p)).task ≡ with_role p.task role)
-  by_test true c = (Running, refl)
-  by_test false true = (Held, refl)
-  by_test false false = (p.task.role, refl)
-event_task q (Take at r n) p = by_test (eqb p.task.number n) (is_privileged p.task && p.owner == q) where
-  by_test : (b c : Bool) → (role : Role)
-      × ((cond b (placed_on q p) (cond c (in_role p Waiting) p)).task ≡ with_role p.task role)
-  by_test true c = (Running, refl)
-  by_test false true = (Waiting, refl)
-  by_test false false = (p.task.role, refl)
-event_task q (Complete at n) p = by_test (eqb p.task.number n) where
-  by_test : (b : Bool) → (role : Role) × ((cond b (in_role p Done) p).task ≡ with_role p.task role)
-  by_test true = (Done, refl)
-  by_test false = (p.task.role, refl)
-event_task q (Abandon at n) p = by_test (eqb p.task.number n) where
-  by_test : (b : Bool) → (role : Role) × ((cond b (in_role p Gone) p).task ≡ with_role p.task role)
-  by_test true = (Gone, refl)
-  by_test false = (p.task.role, refl)
-event_task q (End value) p = (p.task.role, refl)
+-- the role that an event gives to a job, where it gives one
+abbrev pub Gives : Event → Task → Role → Type 0
+Gives (Release n job) t role = (t.number ≡ n) × (role ≡ Fresh)
+Gives (Run at n) t role = (t.number ≡ n) × (role ≡ Running)
+Gives (Preempt at r n) t role = ((t.number ≡ n) × (role ≡ Running)) ⊎ ((t.number ≡ r) × (role ≡ Held))
+Gives (Take at r n) t role = ((t.number ≡ n) × (role ≡ Running)) ⊎ (role ≡ Waiting)
+Gives (Complete at n) t role = (t.number ≡ n) × (role ≡ Done)
+Gives (Abandon at n) t role = (t.number ≡ n) × (role ≡ Gone)
+Gives (End value) t role = ⊥
 
--- a job that is done behind an event that completes none was done before
-pub event_done : (q : ℕ) (e : Event) (p : Placed) → is_complete (single.Prints e) ≡ false
-    → (placed_after q e p).task.role ≡ Done → p.task.role ≡ Done
-event_done q (Release n job) p calm = by_test (eqb p.task.number n) where
-  by_test : (b : Bool) → (cond b (in_role p Fresh) p).task.role ≡ Done → p.task.role ≡ Done
-  by_test true e = absurd (let f : Fresh ≡ Done = e in cc)
-  by_test false e = e
-event_done q (Run at n) p calm = by_test (eqb p.task.number n) where
-  by_test : (b : Bool) → (cond b (placed_on q p) p).task.role ≡ Done → p.task.role ≡ Done
-  by_test true e = absurd (let f : Running ≡ Done = e in cc)
-  by_test false e = e
-event_done q (Preempt at r n) p calm = by_test (eqb p.task.number n) (eqb p.task.number r) where
-  by_test : (b c : Bool) → (cond b (placed_on q p) (cond c (in_role p Held) p)).task.role ≡ Done
-      → p.task.role ≡ Done
-  by_test true c e = absurd (let f : Running ≡ Done = e in cc)
-  by_test false true e = absurd (let f : Held ≡ Done = e in cc)
-  by_test false false e = e
-event_done q (Take at r n) p calm = by_test (eqb p.task.number n) (is_privileged p.task && p.owner == q) where
-  by_test : (b c : Bool) → (cond b (placed_on q p) (cond c (in_role p Waiting) p)).task.role ≡ Done
-      → p.task.role ≡ Done
-  by_test true c e = absurd (let f : Running ≡ Done = e in cc)
-  by_test false true e = absurd (let f : Waiting ≡ Done = e in cc)
-  by_test false false e = e
-event_done q (Complete at n) p calm = never (sym calm)
-event_done q (Abandon at n) p calm = by_test (eqb p.task.number n) where
-  by_test : (b : Bool) → (cond b (in_role p Gone) p).task.role ≡ Done → p.task.role ≡ Done
-  by_test true e = absurd (let f : Gone ≡ Done = e in cc)
-  by_test false e = e
-event_done q (End value) p calm = λ e. e
+-- the job u is t in a role that the event gives, or in its own
+abbrev pub Becomes : Event → Task → Task → Type 0
+Becomes e t u = (role : Role) × (u ≡ with_role t role) × ((role ≡ t.role) ⊎ Gives e t role)
+
+-- a printed event changes no more of a job than its role
+pub event_task : (q : ℕ) (e : Event) (p : Placed) → Becomes e p.task (placed_after q e p).task
+event_task q (Release n job) p = by_test (eqb p.task.number n) refl where
+  by_test : (b : Bool) → eqb p.task.number n ≡ b → Becomes (Release n job) p.task (cond b (in_role p Fresh) p).task
+  by_test true same = (Fresh, refl, inr (eqb-true _ _ same, refl))
+  by_test false other = (p.task.role, refl, inl refl)
+event_task q (Run at n) p = by_test (eqb p.task.number n) refl where
+  by_test : (b : Bool) → eqb p.task.number n ≡ b → Becomes (Run at n) p.task (cond b (placed_on q p) p).task
+  by_test true same = (Running, refl, inr (eqb-true _ _ same, refl))
+  by_test false other = (p.task.role, refl, inl refl)
+event_task q (Preempt at r n) p = by_test (eqb p.task.number n) (eqb p.task.number r) refl refl where
+  by_test : (b c : Bool) → eqb p.task.number n ≡ b → eqb p.task.number r ≡ c
+      → Becomes (Preempt at r n) p.task (cond b (placed_on q p) (cond c (in_role p Held) p)).task
+  by_test true c same other = (Running, refl, inr (inl (eqb-true _ _ same, refl)))
+  by_test false true other same = (Held, refl, inr (inr (eqb-true _ _ same, refl)))
+  by_test false false other others = (p.task.role, refl, inl refl)
+event_task q (Take at r n) p = by_test (eqb p.task.number n) (is_own_of q p) refl where
+  by_test : (b c : Bool) → eqb p.task.number n ≡ b
+      → Becomes (Take at r n) p.task (cond b (placed_on q p) (cond c (in_role p Waiting) p)).task
+  by_test true c same = (Running, refl, inr (inl (eqb-true _ _ same, refl)))
+  by_test false true other = (Waiting, refl, inr (inr refl))
+  by_test false false other = (p.task.role, refl, inl refl)
+event_task q (Complete at n) p = by_test (eqb p.task.number n) refl where
+  by_test : (b : Bool) → eqb p.task.number n ≡ b → Becomes (Complete at n) p.task (cond b (in_role p Done) p).task
+  by_test true same = (Done, refl, inr (eqb-true _ _ same, refl))
+  by_test false other = (p.task.role, refl, inl refl)
+event_task q (Abandon at n) p = by_test (eqb p.task.number n) refl where
+  by_test : (b : Bool) → eqb p.task.number n ≡ b → Becomes (Abandon at n) p.task (cond b (in_role p Gone) p).task
+  by_test true same = (Gone, refl, inr (eqb-true _ _ same, refl))
+  by_test false other = (p.task.role, refl, inl refl)
+event_task q (End value) p = (p.task.role, refl, inl refl)
+
+-- a role that the event doesn't give is the job's from before
+pub role_stays : (e : Event) (t u : Task) (role : Role) → Becomes e t u → (Gives e t role → ⊥) → u.role ≡ role
+    → t.role ≡ role
+role_stays e t u role it other is = by_kind it.2 where
+  new : it.0 ≡ role
+  new = sym (ap (λ (x : Task). x.role) it.1) ∙ is
+
+  by_kind : (it.0 ≡ t.role) ⊎ Gives e t it.0 → t.role ≡ role
+  by_kind (inl same) = sym same ∙ new
+  by_kind (inr gives) = absurd (other (subst (Gives e t) new gives))
+
+-- no event gives Done but a completion
+pub gives_done : (e : Event) (t : Task) → is_complete (single.Prints e) ≡ false → Gives e t Done → ⊥
+gives_done (Release n job) t calm gives = let f : Done ≡ Fresh = gives.1 in cc
+gives_done (Run at n) t calm gives = let f : Done ≡ Running = gives.1 in cc
+gives_done (Preempt at r n) t calm (inl gives) = let f : Done ≡ Running = gives.1 in cc
+gives_done (Preempt at r n) t calm (inr gives) = let f : Done ≡ Held = gives.1 in cc
+gives_done (Take at r n) t calm (inl gives) = let f : Done ≡ Running = gives.1 in cc
+gives_done (Take at r n) t calm (inr gives) = let f : Done ≡ Waiting = gives in cc
+gives_done (Complete at n) t calm gives = never (sym calm)
+gives_done (Abandon at n) t calm gives = let f : Done ≡ Gone = gives.1 in cc
+gives_done (End value) t calm gives = gives
+
+-- nor Gone but an abandonment
+pub gives_gone : (e : Event) (t : Task) → abandons (single.Prints e) ≡ false → Gives e t Gone → ⊥
+gives_gone (Release n job) t calm gives = let f : Gone ≡ Fresh = gives.1 in cc
+gives_gone (Run at n) t calm gives = let f : Gone ≡ Running = gives.1 in cc
+gives_gone (Preempt at r n) t calm (inl gives) = let f : Gone ≡ Running = gives.1 in cc
+gives_gone (Preempt at r n) t calm (inr gives) = let f : Gone ≡ Held = gives.1 in cc
+gives_gone (Take at r n) t calm (inl gives) = let f : Gone ≡ Running = gives.1 in cc
+gives_gone (Take at r n) t calm (inr gives) = let f : Gone ≡ Waiting = gives in cc
+gives_gone (Complete at n) t calm gives = let f : Gone ≡ Done = gives.1 in cc
+gives_gone (Abandon at n) t calm gives = never (sym calm)
+gives_gone (End value) t calm gives = gives
 
 module _ (processors : ℕ) (J : Instance) (valid : IsValid J) (s : State) (keeps : Keeps processors J s) where
   -- the tasks of each processor keep the limits of the instance
@@ -170,7 +192,8 @@ module _ (processors : ℕ) (J : Instance) (valid : IsValid J) (s : State) (keep
         waiting_fits : (p : Placed) → IsMember p s.jobs → p.task.role ≡ Waiting → FitsRole s.clock Waiting p.task
         waiting_fits p mp waits =
             subst (λ role. FitsRole s.clock role p.task) waits
-            (subst (λ t. FitsRole s.clock t.role t) (off_seen 0 p (passes is_privileged p.task Waiting false waits refl))
+            (subst (λ t. FitsRole s.clock t.role t)
+            (off_seen 0 p (passes is_privileged p.task Waiting false waits refl))
             (seen_fits s keeps.sound 0 p mp))
 
   -- a fresh job that waits
@@ -187,7 +210,8 @@ module _ (processors : ℕ) (J : Instance) (valid : IsValid J) (s : State) (keep
         (λ e. absurd (let f : Fresh ≡ Coming = sym p_fresh ∙ e in cc), refl, (fits.1, fits.2, fits.3))) q);
     jobs = jobs_stay (λ p. cond (eqb p.task.number x.task.number) (in_role p Waiting) p) s.jobs
         (λ p member. by_test p (eqb p.task.number x.task.number)) ∙ keeps.jobs;
-    placed = changed_placed processors s keeps.placed (λ p. cond (eqb p.task.number x.task.number) (in_role p Waiting) p)
+    placed = changed_placed processors s keeps.placed
+        (λ p. cond (eqb p.task.number x.task.number) (in_role p Waiting) p)
         s.clock _ (one_off processors s keeps.placed x.task.number Waiting (λ p. refl));
   } where
     by_test : (p : Placed) (b : Bool) → (cond b (in_role p Waiting) p).task.job ≡ p.task.job
@@ -329,7 +353,8 @@ module _ (processors : ℕ) (J : Instance) (valid : IsValid J) (s : State) (keep
       → t.role ≡ role → Each (λ p. p.task.number ≡ t.number → p.task.role ≡ Coming → ⊥) s.jobs
   came_one t member role other came e p mp same comes =
       let x = seen_member i s.jobs t role other e member in
-      let is_x : p ≡ x.0 = same_job processors J valid s keeps p x.0 mp x.1 (same ∙ sym (ap (λ (u : Task). u.number) x.2)) in
+      let is_x : p ≡ x.0 = same_job processors J valid s keeps p x.0 mp x.1 (same
+      ∙ sym (ap (λ (u : Task). u.number) x.2)) in
       came (sym e ∙ sym (ap (λ (u : Task). u.role) x.2) ∙ sym (ap (λ (y : Placed). y.task.role) is_x) ∙ comes)
 
   -- the running job that the processor sees is one of its own
@@ -361,7 +386,8 @@ module _ (processors : ℕ) (J : Instance) (valid : IsValid J) (s : State) (keep
       (here (single.Prints (Run s.clock f.number)) (Began f member fresh none free))
   deed_kept m (Preempted r f member runs some f_member fresh before fits) =
       let x = own_one r member runs in
-      subst (λ n. Keeps processors J (after s (Prints i (Preempt s.clock n f.number)))) (ap (λ (u : Task). u.number) x.2)
+      subst (λ n. Keeps processors J (after s (Prints i (Preempt s.clock n f.number))))
+      (ap (λ (u : Task). u.number) x.2)
       (preempts_kept processors J valid s keeps some_left i low x.0 x.1 (ap (λ (u : Task). u.role) x.2 ∙ runs) x.3
       s.clock f.number (came_one f f_member Fresh (λ e. cc) (λ e. cc) fresh)
       (subst (λ n. IsSound (single.after (seen_from i s) (single.Prints (Preempt s.clock n f.number))))
@@ -393,5 +419,6 @@ module _ (processors : ℕ) (J : Instance) (valid : IsValid J) (s : State) (keep
   pub acts_kept : (version : Version) (gone : Bool) (m : Move) → Acts k (seen version s i) gone m
       → Keeps processors J (after s m)
   acts_kept version gone m acts = subst (λ (x : Move). Keeps processors J (after s x)) (sym acts.is)
-      (deed_kept acts.move (deed_of k version (seen_from i s) no_move (keeps.sound i) (real processors J valid s keeps i)
+      (deed_kept acts.move
+      (deed_of k version (seen_from i s) no_move (keeps.sound i) (real processors J valid s keeps i)
       acts.move acts.case))

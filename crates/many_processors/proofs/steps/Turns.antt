@@ -21,12 +21,12 @@ use Rattle.dover_model.proofs.steps.Deeds.{Deed, Rested, deed_of}
 use Rattle.dover_model.proofs.steps.Kept.{come_jobs, come_coming, opening_keeps}
 use Rattle.many_processors.specs.State.{Placed, State, tasks_of, seen_by, seen_from}
 use Rattle.many_processors.specs.State.{opening, unplaced}
-use Rattle.many_processors.specs.Step.{Move, Prints, Ticks, Seen, seen, ticked, with_tick}
+use Rattle.many_processors.specs.Step.{Move, Prints, Ticks, Seen, seen, ticked, with_tick, open_step}
 use Rattle.many_processors.specs.Step.{all_seen, numbers_from, after, step}
 use Rattle.many_processors.specs.Sound.{Keeps}
 use Rattle.many_processors.proofs.steps.Seeing.{each_sees, one_of_all, numbers_below, below_numbers}
 use Rattle.many_processors.proofs.steps.Cases as cases
-use Rattle.many_processors.proofs.steps.Cases.{IsQuiet, StepCase, step_case}
+use Rattle.many_processors.proofs.steps.Cases.{IsQuiet, StepCase, step_case, open_case}
 use Rattle.many_processors.proofs.steps.Turning.{Turned, turned_sound}
 use Rattle.many_processors.proofs.steps.Placing.{seen_same, off_seen, own_seen, seen_own, seen_member, all_left}
 use Rattle.many_processors.proofs.steps.Kept.{seen_fits, had_most, job_released}
@@ -237,7 +237,8 @@ module _ (processors : ℕ) (J : Instance) (valid : IsValid J) (s : State) (keep
     below : (a b : ℕ) → (a < b) ⊎ (b ≤ a)
     below a zero = inr (omega arith)
     below zero (suc b) = inl (omega arith)
-    below (suc a) (suc b) = elim (below a b) [ inl less ↦ inl (omega (arith, less)) | inr low ↦ inr (omega (arith, low)) ]
+    below (suc a) (suc b) = elim (below a b)
+        [ inl less ↦ inl (omega (arith, less)) | inr low ↦ inr (omega (arith, low)) ]
 
     by_runs : ((r : Task) × IsMember r (map (seen_by q) s.jobs) × (r.role ≡ Running))
         ⊎ NoneRuns (map (seen_by q) s.jobs)
@@ -266,7 +267,8 @@ module _ (processors : ℕ) (J : Instance) (valid : IsValid J) (s : State) (keep
   -- a tick keeps what a state keeps
   pub ticks_kept : Keeps processors J (after s Ticks)
   ticks_kept = record {
-    sound = λ q. sound_of (one.state_at (s.clock + 1) (map (λ p. seen_by q (ticked p)) s.jobs)) (seen_from q (after s Ticks))
+    sound = λ q. sound_of (one.state_at (s.clock + 1) (map (λ p. seen_by q (ticked p)) s.jobs))
+        (seen_from q (after s Ticks))
         refl (sym (map_map (seen_by q) ticked s.jobs))
         (turned_sound s.clock (seen_by q) (λ p. seen_by q (ticked p)) s.jobs (turns q)
         (sound_of (seen_from q s) (one.state_at s.clock (map (seen_by q) s.jobs)) refl refl (keeps.sound q))
@@ -320,41 +322,48 @@ module _ (processors : ℕ) (J : Instance) (valid : IsValid J) (some : 1 ≤ pro
   -- each processor is quiet before a tick
   pub all_quiet : IsQuiet rules s all → (i : ℕ) → i < processors → Quiet (seen_from i s)
   all_quiet quiet i less =
-      let member : IsMember (seen rules.version s i) all = map_member (seen rules.version s) (numbers_from 0 processors) i
+      let member : IsMember (seen rules.version s i) all = map_member (seen rules.version s)
+      (numbers_from 0 processors) i
       (below_numbers i 0 processors (omega arith) (omega (arith, less))) in
-      quiet_of rules.ratio (seen_from i s) (deed_of rules.ratio rules.version (seen_from i s) single.Ticks (keeps.sound i)
+      quiet_of rules.ratio (seen_from i s)
+      (deed_of rules.ratio rules.version (seen_from i s) single.Ticks (keeps.sound i)
       (real processors J valid s keeps i) single.Ticks
       (Rests (running (seen_from i s)) (quiet.settles (seen rules.version s i) member)
       (quiet.stale (seen rules.version s i) member) (quiet.ahead (seen rules.version s i) member)
       (inl (quiet.early (seen rules.version s i) member))))
 
   -- each case keeps what a state keeps
-  case_kept : (m : Move) → StepCase rules s all m → Keeps processors J (after s m)
-  case_kept m (cases.Completed q member t served finished) =
+  case_kept : (may_end : Bool) (m : Move) → StepCase may_end rules s all m → Keeps processors J (after s m)
+  case_kept may_end m (cases.Completed q member t served finished) =
       let i = which q member in
       let x = running_job q.processor t (subst (λ (r : Seen). r.view.running ≡ Some t) i.0 served) in
       subst (λ (u : Task). Keeps processors J (after s (Prints q.processor (Complete q.view.clock u.number)))) x.2
       (completes_kept processors J valid s keeps q.processor q.view.clock x.0 x.1
       (λ e. absurd (let f : Coming ≡ Running = sym e ∙ x.3 in cc)))
-  case_kept m (cases.Acted q member n acts going decided) =
+  case_kept may_end m (cases.Acted q member n acts going decided) =
       let i = which q member in
       acts_kept processors J valid s keeps
       (all_left processors s rules.version keeps.sound keeps.placed going) rules.ratio q.processor i.1
       rules.version false m (subst (λ r. cases.Acts rules.ratio r false m) i.0 acts)
-  case_kept m (cases.Abandoned q member n acts it going light) =
+  case_kept may_end m (cases.Abandoned q member n acts it going light) =
       let i = which q member in
       acts_kept processors J valid s keeps
       (all_left processors s rules.version keeps.sound keeps.placed going) rules.ratio q.processor i.1
       rules.version true m (subst (λ r. cases.Acts rules.ratio r true m) i.0 acts)
-  case_kept m (cases.Ended over) = ends_kept processors J valid s keeps 0
+  case_kept may_end m (cases.Ended may over) = ends_kept processors J valid s keeps 0
       (value_sum (filter is_done (tasks_of s.jobs)))
-  case_kept m (cases.Rested quiet) = ticks_kept processors J valid s keeps
+  case_kept may_end m (cases.Rested quiet unended) = ticks_kept processors J valid s keeps
       (all_left processors s rules.version keeps.sound keeps.placed quiet.going) (all_quiet quiet) some
 
   -- so does every step
   pub step_kept : Keeps processors J (after s (step processors rules s))
-  step_kept = case_kept (step processors rules s)
+  step_kept = case_kept true (step processors rules s)
       (step_case rules s all (each_sees processors rules.version s))
+
+  -- and every open one
+  pub open_kept : Keeps processors J (after s (open_step processors rules s))
+  open_kept = case_kept false (open_step processors rules s)
+      (open_case rules s all (each_sees processors rules.version s))
 
 -- ---- the opening
 

@@ -3,12 +3,13 @@ use Rattle.many_processors.proofs.runs.EachStep.{each_step, busy_where_one_waits
 use Rattle.many_processors.proofs.runs.RunEnds.{run_ends, few_printed}
 use Rattle.many_processors.proofs.runs.RanFor.{ran_for}
 use Rattle.many_processors.proofs.runs.Honest.{ran_different, named_in_window, honest, done_finished, observed_all}
-use Rattle.std.proofs.Common.{◌≡◌, ℕ, ◌<◌, ◌⊎◌, true, refl}
+use Rattle.std.proofs.Common.{◌≡◌, ℕ, ◌<◌, ◌⊎◌, true, false, refl}
 use Rattle.dover_model.specs.declared.events.Role.TheVariants.{Fresh, Waiting, Held}
 use Rattle.dover_model.specs.Common.{Each, is_privileged}
 use Rattle.dover_model.proofs.steps.Roles.{passes}
 use Rattle.many_processors.specs.Step.{Ticks}
-use Rattle.many_processors.specs.Ticks.{SomeRunsOn}
+use Rattle.many_processors.specs.Ticks.{SomeRunsOn, takes_or_abandons}
+use Rattle.many_processors.proofs.runs.Underload.{step_keeps_all, all_completed}
 use Rattle.many_processors.proofs.run_laws.laws_of_runs.Goals as goal
 
 pub returns-clause-sound_opening : goal.returns-clause-sound_opening
@@ -36,7 +37,8 @@ pub returns-clause-none_free : goal.returns-clause-none_free
 returns-clause-none_free c processors J some valid = each_step processors J valid some
     (λ x. x.move ≡ Ticks → Each (λ p. (p.task.role ≡ Fresh) ⊎ (p.task.role ≡ Waiting) → (q : ℕ) → q < processors
     → SomeRunsOn q x.before) x.before.jobs)
-    (λ s keeps ticks p member waits q low. busy_where_one_waits processors J valid some s keeps ticks q low p member waits)
+    (λ s keeps ticks p member waits q low. busy_where_one_waits processors J valid some s keeps ticks q low p member
+    waits)
 
 pub returns-clause-none_holds : goal.returns-clause-none_holds
 returns-clause-none_holds c processors J some valid = each_step processors J valid some
@@ -52,3 +54,10 @@ returns-clause-done c processors J some valid = done_finished processors J valid
 
 pub returns-clause-as_declared : goal.returns-clause-as_declared
 returns-clause-as_declared c processors J some valid = observed_all processors J valid some
+
+pub returns-clause-none_lost : goal.returns-clause-none_lost
+returns-clause-none_lost c processors J some valid few = each_step processors J valid some
+    (λ x. takes_or_abandons x.move ≡ false) (λ s keeps. step_keeps_all processors J valid some few s keeps)
+
+pub returns-clause-all_value : goal.returns-clause-all_value
+returns-clause-all_value c processors J some valid few = all_completed processors J valid some few
