@@ -10,8 +10,8 @@ use Rattle.dover_model.specs.Orders.{is_heavy}
 use Rattle.dover_model.specs.Sound.{IsMember, Each}
 use Rattle.dover_model.specs.Books.{Job, job_value, IsDense}
 
--- d, and e once more, are paid by z: with the ratio k = p/q, k·d + e is at most √k times z, or with the factor β = b/c at
--- most the greater of 1 and k/(β-1) times it
+-- d, and e once more, are paid by z: with the ratio k = p/q, k·d + e is at most √k times z, or with the factor β =
+-- b/c at most the greater of 1 and k/(β-1) times it
 abbrev pub IsPaidTwiceBy : Fraction → Option Factor → ℕ → ℕ → ℕ → Type 0
 IsPaidTwiceBy k None d e z = (k.p * d + k.q * e) * (k.p * d + k.q * e) ≤ k.p * k.q * z * z
 IsPaidTwiceBy k (Some f) d e z = (f.b - f.c) * (k.p * d + k.q * e) ≤ max (k.q * (f.b - f.c)) (k.p * f.c) * z
@@ -85,8 +85,8 @@ pub record GoneIn (k : Fraction) (v w : ℕ) (processors : ℕ) (intervals : Lis
   pub reach : o.job.deadline ≤ o.at + o.job.work
   pub dense : IsDense k v w o.job
 
--- the books of a run of so many processors, with the jobs that each tick was given to, and the value v and the work w of
--- a job of least density
+-- the books of a run of so many processors, with the jobs that each tick was given to, and the value v and the work w
+-- of a job of least density
 pub record AreBooks (k : Fraction) (v w : ℕ) (processors : ℕ) (jobs : List Job) (ran : List (List ℕ)) : Type 0 where
   pub some_q : 1 ≤ k.q
   pub ratio : k.q ≤ k.p
@@ -113,8 +113,8 @@ pub record AreBooks (k : Fraction) (v w : ℕ) (processors : ℕ) (jobs : List J
   -- a processor with an interval gives the tick to some job
   pub covered : (τ : ℕ) → open_at intervals τ ≤ length (given_at ran τ)
   pub busy : (τ : ℕ) → IsBusyIn processors ran (taken ++ gone) τ
-  -- all ticks are paid by what is done as usual and displaced, by what is completed of those by themselves, and by what the
-  -- other jobs completed after a take had
+  -- all ticks are paid by what is done as usual and displaced, by what is completed of those by themselves, and by
+  -- what the other jobs completed after a take had
   pub ticks_paid : v * sum_by length ran ≤ w * (sum_by (λ i. i.regular) intervals + sum_by (λ i. i.displaced) intervals
       + spare) + v * sum_by (λ o. o.had) taken
   pub taken_are : Each (TakenIn v w) taken

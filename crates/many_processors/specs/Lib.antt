@@ -6,3 +6,5 @@ pub mod Run
 pub mod Sound
 pub mod Ticks
 pub mod Observed
+pub mod Settled
+pub mod Online

@@ -1,5 +1,6 @@
 -- Runs on several processors: the steps of the machine from the opening state on.
-use Rattle.std.specs.Prelude.{◌≡◌, ℕ, zero, suc, ◌+◌, ◌*◌, List, [], ◌∷◌, length, Bool, true, false, Option, Some, None, map}
+use Rattle.std.specs.Prelude.{◌≡◌, ℕ, zero, suc, ◌+◌, ◌*◌, List, [], ◌∷◌, length, Bool, true, false, Option, Some, None}
+use Rattle.std.specs.Prelude.{map}
 use Rattle.std.specs.Prelude.{filter, filter_map, fold}
 use Rattle.std.specs.List.{list_any}
 use Rattle.dover_model.specs.declared.events.Event.{Event}

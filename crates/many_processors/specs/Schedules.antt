@@ -1,5 +1,5 @@
--- Clairvoyant schedules of many processors: place t of a list has the numbers of the jobs that tick t is given to. A job
--- may go on on another processor. No queue, no decision.
+-- Clairvoyant schedules of many processors: place t of a list has the numbers of the jobs that tick t is given to. A
+-- job may go on on another processor. No queue, no decision.
 use Rattle.std.specs.Prelude.{ℕ, ◌≤◌, List, take, drop, length, Bool, ◌==◌, nat_le, if◌then◌else◌}
 use Rattle.std.specs.List.{count_by, sum_by, list_any}
 use Rattle.dover_model.specs.JobFacts.{JobFacts}

@@ -19,8 +19,8 @@ use Rattle.dover_model.specs.Step.{View, with_role}
 use Rattle.dover_model.specs.Step as single
 use Rattle.many_processors.specs.State.{Placed, State, tasks_of, seen_from}
 
--- what a step is: a printed event on a processor (0 where it is on none), a silent wait of the fresh job of this number,
--- or a silent tick
+-- what a step is: a printed event on a processor (0 where it is on none), a silent wait of the fresh job of this
+-- number, or a silent tick
 pub data Move : Type 0 where
   Prints : (processor : ℕ) → Event → Move
   Waits : ℕ → Move
@@ -142,8 +142,8 @@ is_due_before None b = false
 abbrev pub runs_longer : Seen → Seen → Bool
 runs_longer a b = is_due_before b.view.running a.view.running
 
--- the processor on which a fresh job is decided on: a free one, or else of those where it preempts the one whose running
--- job is due last, of several the smallest, or else any
+-- the processor on which a fresh job is decided on: a free one, or else of those where it preempts the one whose
+-- running job is due last, of several the smallest, or else any
 abbrev pub deciding : List Seen → Option Seen
 deciding all = free_one all or_try first runs_longer (filter is_preempted all) or_try front all
 
@@ -165,7 +165,8 @@ alarm k q = placed q (single.alarm k q.view q.view.running q.view.must_start)
 
 -- 7. nothing is left to do
 abbrev pub ending : State → Option Move
-ending s = then_some (list_all is_over (tasks_of s.jobs)) (Prints 0 (End (value_sum (filter is_done (tasks_of s.jobs)))))
+ending s = then_some (list_all is_over (tasks_of s.jobs))
+    (Prints 0 (End (value_sum (filter is_done (tasks_of s.jobs)))))
 
 -- the first of cases 1 to 6 that applies, where the processors see this, or what else is done
 abbrev pub urgent_or : Rules → List Seen → Move → Move

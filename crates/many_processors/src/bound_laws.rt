@@ -7,8 +7,8 @@ ghost use Rattle.many_processors.specs.Books.{AreBooks, completed_in};
 ghost use Rattle.many_processors.specs.Run.{completed_value, ran};
 ghost use Rattle.many_processors.specs.Schedules.{IsFor, worth};
 
-/// - `over_books`: over any books of a run on so many processors, no schedule of as many, which may move jobs from one to
-///   another in any tick, is worth more than the bound of what the run completes: the bound of one processor.
+/// - `over_books`: over any books of a run on so many processors, no schedule of as many, which may move jobs from
+///   one to another in any tick, is worth more than the bound of what the run completes: the bound of one processor.
 /// - `has_books`: each run has books, with the ticks that it gives.
 /// - `same_number`: so no schedule of as many processors is worth more than the bound of what a run completes.
 pub fn laws_of_bounds()

@@ -3,3 +3,4 @@
 
 pub mod bound_laws;
 pub mod run_laws;
+pub mod settled_laws;

@@ -23,8 +23,8 @@ ghost use Rattle.many_processors.specs.Observed.{observed, end_state};
 /// - `in_window`: each tick that a job has is one of its window, from its release to its deadline.
 /// - `none_free`: in each tick in which a job is fresh or waits, a job runs on each processor.
 /// - `none_holds`: in each tick in which a job is held, a job runs on its processor.
-/// - `none_lost`, `all_value`: where no tick is in the windows of more jobs than there are processors, none is taken late
-///   or abandoned, and the run has the value of all.
+/// - `none_lost`, `all_value`: where no tick is in the windows of more jobs than there are processors, none is taken
+///   late or abandoned, and the run has the value of all.
 /// - `honest`: the value that a run ends with is what its own schedule is worth, by the works as the run observed them.
 /// - `done`: a job that is completed had all its work, or had come to a finish of its own.
 /// - `as_declared`: where no job finishes early, the works that the run observed are the declared ones.

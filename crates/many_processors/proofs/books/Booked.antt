@@ -94,8 +94,8 @@ fallen_value fell p = cond (is_over p.task) 0 (cond (fell p.task.number) (value_
 abbrev pub fallen : (ℕ → Bool) → List Placed → ℕ
 fallen fell jobs = sum_by (fallen_value fell) jobs
 
--- nothing is asked for the job: it fell, or it has a processor and didn't take it, so that it will be completed as usual or
--- fall
+-- nothing is asked for the job: it fell, or it has a processor and didn't take it, so that it will be completed as
+-- usual or fall
 abbrev pub is_excused : (ℕ → Open) → (ℕ → Bool) → Placed → Bool
 is_excused way fell p = fell p.task.number || (is_privileged p.task && not (way p.owner).took)
 

@@ -32,7 +32,8 @@ use Rattle.many_processors.specs.Books.{is_light_in}
 use Rattle.many_processors.proofs.books.Booked.{WasBusy, is_light_on}
 use Rattle.many_processors.proofs.books.Moved.{light_grows}
 use Rattle.many_processors.proofs.steps.Seeing.{numbers_below}
-use Rattle.many_processors.proofs.books.OverSteps.{order_last, sum_last, sum_goes, gone_own, busy_before, stays_beside, parts}
+use Rattle.many_processors.proofs.books.OverSteps.{order_last, sum_last, sum_goes, gone_own, busy_before, stays_beside}
+use Rattle.many_processors.proofs.books.OverSteps.{parts}
 use Rattle.many_processors.proofs.books.OverSteps.{fallen_goes}
 
 module _ (k : Fraction) (v w processors : ℕ) (ran : List (List ℕ)) (J : _) (s : State)
@@ -73,7 +74,8 @@ module _ (k : Fraction) (v w processors : ℕ) (ran : List (List ℕ)) (J : _) (
   began = ((booked.under i i_low).some i_lasts).0
 
   stays : (q : ℕ) → (i ≡ q → ⊥) → Each (StaysFor q goes) s.jobs
-  stays q other = stays_beside k v w processors ran J s booked keeps one_job pressed x x_member not_past Done (λ t. refl)
+  stays q other = stays_beside k v w processors ran J s booked keeps one_job pressed x x_member not_past Done
+      (λ t. refl)
       (λ t. refl) q (other_own q i x refl other)
 
   sums : (f : Placed → ℕ) → sum_by f (map goes s.jobs) + f x ≡ sum_by f s.jobs + f (in_role x Done)
@@ -123,12 +125,15 @@ module _ (k : Fraction) (v w processors : ℕ) (ran : List (List ℕ)) (J : _) (
   i_member = below_numbers i 0 processors (omega arith) (omega (arith, i_low))
 
   -- what fell and is under way
-  falls : fallen booked.fell (map goes s.jobs) + cond (booked.fell x.task.number) (value_of x) 0 ≡ fallen booked.fell s.jobs
-  falls = fallen_goes k v w processors ran J s booked keeps one_job pressed x x_member not_past Done (λ t. refl) (λ t. refl)
+  falls : fallen booked.fell (map goes s.jobs) + cond (booked.fell x.task.number) (value_of x) 0
+      ≡ fallen booked.fell s.jobs
+  falls = fallen_goes k v w processors ran J s booked keeps one_job pressed x x_member not_past Done (λ t. refl)
+      (λ t. refl)
       booked.fell
 
   pub had_worth : v * x.task.had ≤ w * x.task.job.value
-  had_worth = let times : v * x.task.had ≤ v * x.task.job.work = mul-le-mul_left v (had_most s keeps.sound x x_member) in
+  had_worth = let times : v * x.task.had
+      ≤ v * x.task.job.work = mul-le-mul_left v (had_most s keeps.sound x x_member) in
       omega (arith, times, modest)
 
   -- ---- the interval ends
@@ -140,7 +145,8 @@ module _ (k : Fraction) (v w processors : ℕ) (ran : List (List ℕ)) (J : _) (
       (regular_new : sum_by job_value regular + (booked.way i).regular ≡ sum_by job_value booked.regular + rc)
       (taken_new : sum_by (λ o. o.job.value) taken + sum_by job_value lost
       ≡ sum_by (λ o. o.job.value) booked.taken + sum_by job_value booked.lost + tc)
-      (lost_new : sum_by job_value lost ≤ sum_by job_value booked.lost + cond (booked.fell x.task.number) (value_of x) 0)
+      (lost_new : sum_by job_value lost ≤ sum_by job_value booked.lost
+      + cond (booked.fell x.task.number) (value_of x) 0)
       (paid : IsPaidTwice k dc (booked.way i).first tc) (comes : rc + tc ≡ (booked.way i).regular + x.task.job.value)
       (busy_new : (τ : ℕ) → WasBusy processors ran booked.way booked.fell s.jobs (booked.taken ++ booked.gone) τ
       → WasBusy processors ran (at_one i shut booked.way) booked.fell (map goes s.jobs) (taken ++ booked.gone) τ)
@@ -220,7 +226,8 @@ module _ (k : Fraction) (v w processors : ℕ) (ran : List (List ℕ)) (J : _) (
                 ∙ not_true (is_heavy k o.job.value (comes_to booked.way s.jobs i)) outer.1),
           )
 
-    pub close_booked : Booked k v w processors ran (record { clock = s.clock; jobs = map goes s.jobs; pressed = pressed })
+    pub close_booked : Booked k v w processors ran
+        (record { clock = s.clock; jobs = map goes s.jobs; pressed = pressed })
     close_booked = record {
       closed = booked.closed ++ ended ∷ [];
       way = way;
@@ -237,8 +244,15 @@ module _ (k : Fraction) (v w processors : ℕ) (ran : List (List ℕ)) (J : _) (
       paid = each_append (λ c. IsPaidTwice k c.displaced c.first c.taken) booked.closed (ended ∷ []) booked.paid
           (each_cons (λ c. IsPaidTwice k c.displaced c.first c.taken) ended [] paid (λ c member. absurd member));
       under = λ q less. on_each (λ q o. q < processors → Under k q s.clock (map goes s.jobs) o) i shut booked.way
-          (λ _. record { none = λ e. (refl, nobody); some = λ e. never e; calm = λ e. (refl, refl); taker = λ e. never e })
-          (λ q other less. under_stays k q s.clock s.jobs goes (booked.way q) (stays q other) (booked.under q less)) q less;
+          (λ _. record {
+            none = λ e. (refl, nobody);
+            some = λ e. never e;
+            calm = λ e. (refl, refl);
+            taker = λ e.
+                never e;
+          })
+          (λ q other less. under_stays k q s.clock s.jobs goes (booked.way q) (stays q other) (booked.under q less))
+          q less;
       done_sum = λ f. done_more f ∙ sym (done_new f);
       gone_sum = gone_same;
       regular_sum = omega (
@@ -281,7 +295,8 @@ module _ (k : Fraction) (v w processors : ℕ) (ran : List (List ℕ)) (J : _) (
           it.light,
           sum_last (λ c. one (is_light_in k o c)) booked.closed ended,
           light_ended o it.before,
-          sum_on (λ q. one (is_light_on k way (map goes s.jobs) o q)) (λ q. one (is_light_on k way (map goes s.jobs) o q))
+          sum_on (λ q. one (is_light_on k way (map goes s.jobs) o q))
+              (λ q. one (is_light_on k way (map goes s.jobs) o q))
               i 0 processors i_member (λ j other. refl),
           light_rest o,
         );
@@ -378,7 +393,8 @@ module _ (k : Fraction) (v w processors : ℕ) (ran : List (List ℕ)) (J : _) (
       paid = booked.paid;
       under = λ q less. on_each (λ q o. q < processors → Under k q s.clock (map goes s.jobs) o) i grown booked.way
           (λ _. grown_under)
-          (λ q other less. under_stays k q s.clock s.jobs goes (booked.way q) (stays q other) (booked.under q less)) q less;
+          (λ q other less. under_stays k q s.clock s.jobs goes (booked.way q) (stays q other) (booked.under q less))
+          q less;
       done_sum = λ f. omega (arith, done_more f, sum_by-cons f (number_and_job x) booked.regular);
       gone_sum = gone_same;
       regular_sum = omega (
@@ -412,11 +428,13 @@ module _ (k : Fraction) (v w processors : ℕ) (ran : List (List ℕ)) (J : _) (
         light = omega (
           arith,
           it.light,
-          sum_le (λ q. one (is_light_on k booked.way s.jobs o q)) (λ q. one (is_light_on k grown_way (map goes s.jobs) o q))
+          sum_le (λ q. one (is_light_on k booked.way s.jobs o q))
+              (λ q. one (is_light_on k grown_way (map goes s.jobs) o q))
               (numbers_from 0 processors)
               (λ q member. light_grows k booked.way grown_way s.jobs (map goes s.jobs) o q
               (on_each (λ q z. (booked.way q).lasts ≡ true → (z.lasts ≡ true) × (z.from ≡ (booked.way q).from)
-              × ((booked.way q).regular + own_sum q value_of s.jobs ≤ z.regular + own_sum q value_of (map goes s.jobs))) i
+              × ((booked.way q).regular + own_sum q value_of s.jobs ≤ z.regular
+              + own_sum q value_of (map goes s.jobs))) i
               grown booked.way (λ _. (refl, refl, omega (arith, own_left)))
               (λ q other e. (e, refl, omega (arith, own_stays q goes (λ t. t.job.value) s.jobs (stays q other)))) q)),
         );

@@ -18,7 +18,8 @@ use Rattle.many_processors.specs.State.{Placed, State}
 use Rattle.many_processors.specs.Step.{is_own_of, numbers_from}
 use Rattle.many_processors.specs.Books.{Over, given_at, IsPaidTwice}
 use Rattle.many_processors.proofs.books.Booked.{Open, own_sum, placed_sum, number_and_job, comes_to, is_light_on}
-use Rattle.many_processors.proofs.books.Booked.{Taker, Under, WasBusy, Booked, fallen, fallen_value, is_excused, fails_too}
+use Rattle.many_processors.proofs.books.Booked.{Taker, Under, WasBusy, Booked, fallen, fallen_value, is_excused}
+use Rattle.many_processors.proofs.books.Booked.{fails_too}
 use Rattle.many_processors.proofs.steps.Seeing.{numbers_below}
 
 -- a job stays where it is for processor q
@@ -85,7 +86,8 @@ under_stays k q clock jobs h o stays it = record {
       runs = ap (λ (u : Task). u.role) x.1 ∙ t.runs;
       owner = x.2 ∙ t.owner;
       alone = on_map h (λ p. is_own_of q p ≡ true → p.task.number ≡ (h t.job).task.number) jobs
-          (λ p member is_own. by_one p (stays p member) is_own (t.alone p member) ∙ sym (ap (λ (u : Task). u.number) x.1));
+          (λ p member is_own. by_one p (stays p member) is_own (t.alone p member)
+          ∙ sym (ap (λ (u : Task). u.number) x.1));
       no_laxity = subst (λ (u : Task). clock + left u ≡ u.job.deadline) (sym x.1) t.no_laxity;
       paid = subst (λ (u : Task). IsPaidTwice k o.displaced o.first u.job.value) (sym x.1) t.paid;
     } where
@@ -217,13 +219,15 @@ module _ (k : Fraction) (v w processors : ℕ) (ran : List (List ℕ)) (s : Stat
           (λ q. one ((booked.way q).lasts && nat_le (booked.way q).from τ)) (numbers_from 0 processors)
           (λ q member. by_lasts q τ before (more q).lasts refl (began q (low q member))),
     );
-    busy = λ τ before. busy_moves processors ran booked.way more booked.fell now s.jobs (booked.taken ++ booked.gone) h τ same
+    busy = λ τ before. busy_moves processors ran booked.way more booked.fell now s.jobs (booked.taken
+        ++ booked.gone) h τ same
         excused (booked.busy τ before);
     ticks_paid = omega (
       arith,
       booked.ticks_paid,
       paid,
-      ap (λ n. w * n) (sum_plus (λ q. (booked.way q).regular) (λ q. (booked.way q).displaced) (numbers_from 0 processors)),
+      ap (λ n. w * n) (sum_plus (λ q. (booked.way q).regular) (λ q. (booked.way q).displaced)
+          (numbers_from 0 processors)),
       ap (λ n. w * n) (sum_plus (λ q. (more q).regular) (λ q. (more q).displaced) (numbers_from 0 processors)),
       ap (λ n. w * n) all_regular,
     );

@@ -20,7 +20,8 @@ use Rattle.many_processors.specs.Step.{is_own_of, numbers_from, placed_after, in
 use Rattle.many_processors.specs.Sound.{Keeps}
 use Rattle.many_processors.proofs.books.Booked.{Open, own_sum, placed_sum, value_of}
 use Rattle.many_processors.proofs.books.Booked.{Under, Booked, is_excused, excused_fell, excused_on, excused_by}
-use Rattle.many_processors.proofs.books.Moved.{StaysFor, own_same, own_stays, under_stays, SameBooks, StaysExcused, same_fallen, moved_booked}
+use Rattle.many_processors.proofs.books.Moved.{StaysFor, own_same, own_stays, under_stays, SameBooks, StaysExcused}
+use Rattle.many_processors.proofs.books.Moved.{same_fallen, moved_booked}
 
 -- ---- one job
 
@@ -146,7 +147,8 @@ module _ (k : Fraction) (v w processors : ℕ) (ran : List (List ℕ)) (s : Stat
       → ((q : ℕ) → Each (StaysFor q h) s.jobs) → Each (λ p. (h p).task.had ≡ p.task.had) s.jobs
       → Each (λ p. is_privileged p.task ≡ true → is_privileged (h p).task ≡ true) s.jobs
       → Booked k v w processors ran (record { clock = s.clock; jobs = map h s.jobs; pressed = pressed })
-  quiet_booked h pressed same stays had on = moved_booked k v w processors ran s booked h pressed booked.way booked.fell same (λ p member. excused p member)
+  quiet_booked h pressed same stays had on = moved_booked k v w processors ran s booked h pressed booked.way
+      booked.fell same (λ p member. excused p member)
       (omega (arith, same_fallen booked.fell h s.jobs same))
       (λ q low. under_stays k q s.clock s.jobs h (booked.way q) (stays q) (booked.under q low))
       (λ q low. refl) (λ q low e. inl (e, refl))
@@ -262,7 +264,8 @@ module _ (k : Fraction) (v w processors : ℕ) (ran : List (List ℕ)) (J : _) (
     own_stays_on : Each (λ p. is_own_of i p ≡ true → is_own_of i (gets p) ≡ true) s.jobs
     own_stays_on p member own = by_test (eqb p.task.number x.task.number) refl where
       by_test : (b : Bool) → eqb p.task.number x.task.number ≡ b → is_own_of i (gets p) ≡ true
-      by_test true e = subst (λ u. is_own_of i (gets u) ≡ true) (sym (one_job p x member x_member (eqb-true _ _ e))) x_own
+      by_test true e = subst (λ u. is_own_of i (gets u) ≡ true) (sym (one_job p x member x_member (eqb-true _ _ e)))
+          x_own
       by_test false e = own_same i p (gets p) (gets_task p ∙ ap (λ b. cond b (with_role p.task Running) p.task) e)
           (gets_owner p ∙ ap (λ b. cond b i p.owner) e) ∙ own
 
@@ -326,7 +329,8 @@ module _ (k : Fraction) (v w processors : ℕ) (ran : List (List ℕ)) (J : _) (
         ))
         (λ q low. on_each (λ q o. q < processors → Under k q s.clock (map gets s.jobs) o) i
         (begun s.clock (booked.way i)) booked.way (λ _. run_under)
-        (λ q other low. under_stays k q s.clock s.jobs gets (booked.way q) (others_stay q other) (booked.under q low)) q low)
+        (λ q other low. under_stays k q s.clock s.jobs gets (booked.way q) (others_stay q other)
+        (booked.under q low)) q low)
         (λ q low. on_each (λ q o. q < processors → o.regular ≡ (booked.way q).regular) i (begun s.clock (booked.way i))
         booked.way (λ low. same_regular (booked.way i) (booked.under i i_low)) (λ q other low. refl) q low)
         (λ q low. on_each (λ q o. q < processors → o.lasts ≡ true → (((booked.way q).lasts ≡ true)
@@ -337,7 +341,8 @@ module _ (k : Fraction) (v w processors : ℕ) (ran : List (List ℕ)) (J : _) (
         (begun s.clock (booked.way i)) booked.way (grows (booked.way i))
         (λ q other e. (e, refl, omega (arith, own_stays q gets (λ t. t.job.value) s.jobs (others_stay q other)))) q)
         (omega (arith, had_times, ap (λ n. w * n) same_displaced)) where
-          by_books : (p : Placed) → IsMember p s.jobs → (b : Bool) → eqb p.task.number x.task.number ≡ b → SameBooks gets p
+          by_books : (p : Placed) → IsMember p s.jobs → (b : Bool) → eqb p.task.number x.task.number ≡ b
+              → SameBooks gets p
           by_books p member true e = role_books gets p Running
               (gets_task p ∙ ap (λ b. cond b (with_role p.task Running) p.task) e)
               (subst (λ u. is_over u.task ≡ false) (sym (one_job p x member x_member (eqb-true _ _ e))) not_past) refl
@@ -363,7 +368,8 @@ module _ (k : Fraction) (v w processors : ℕ) (ran : List (List ℕ)) (J : _) (
 
           -- so on each processor it is as it was, or nobody took it
           way_calm : (q : ℕ) → (booked.way q).took ≡ false → (run_way q).took ≡ false
-          way_calm = on_each (λ q o. (booked.way q).took ≡ false → o.took ≡ false) i (begun s.clock (booked.way i)) booked.way
+          way_calm = on_each (λ q o. (booked.way q).took ≡ false → o.took ≡ false) i (begun s.clock (booked.way i))
+              booked.way
               (λ _. run_calm) (λ q other e. e)
 
           excused : Each (StaysExcused booked.way run_way booked.fell booked.fell gets) s.jobs
@@ -409,7 +415,14 @@ module _ (k : Fraction) (v w processors : ℕ) (ran : List (List ℕ)) (J : _) (
           same_regular : (o : Open) → Under k i s.clock s.jobs o → (begun s.clock o).regular ≡ o.regular
           same_regular o it = by_test o.lasts refl where
             by_test : (b : Bool) → o.lasts ≡ b → (cond b o
-                (record { lasts = true; from = s.clock; regular = 0; displaced = 0; first = 0; took = false })).regular ≡ o.regular
+                (record {
+                  lasts = true;
+                  from = s.clock;
+                  regular = 0;
+                  displaced = 0;
+                  first = 0;
+                  took = false;
+                })).regular ≡ o.regular
             by_test true e = refl
             by_test false e = sym (ap (λ (y : Open). y.regular) (it.none e).0)
 
@@ -417,11 +430,20 @@ module _ (k : Fraction) (v w processors : ℕ) (ran : List (List ℕ)) (J : _) (
               → ((o.lasts ≡ true) × ((begun s.clock o).from ≡ o.from)) ⊎ ((begun s.clock o).from ≡ s.clock)
           began o = by_test o.lasts refl where
             by_test : (b : Bool) → o.lasts ≡ b → (cond b o
-                (record { lasts = true; from = s.clock; regular = 0; displaced = 0; first = 0; took = false })).lasts ≡ true
+                (record {
+                  lasts = true;
+                  from = s.clock;
+                  regular = 0;
+                  displaced = 0;
+                  first = 0;
+                  took = false;
+                })).lasts ≡ true
                 → ((o.lasts ≡ true) × ((cond b o
-                (record { lasts = true; from = s.clock; regular = 0; displaced = 0; first = 0; took = false })).from ≡ o.from))
+                (record { lasts = true; from = s.clock; regular = 0; displaced = 0; first = 0; took = false })).from
+                ≡ o.from))
                 ⊎ ((cond b o
-                (record { lasts = true; from = s.clock; regular = 0; displaced = 0; first = 0; took = false })).from ≡ s.clock)
+                (record { lasts = true; from = s.clock; regular = 0; displaced = 0; first = 0; took = false })).from
+                ≡ s.clock)
             by_test true e f = inl (e, refl)
             by_test false e f = inr refl
 
@@ -448,7 +470,14 @@ module _ (k : Fraction) (v w processors : ℕ) (ran : List (List ℕ)) (J : _) (
                 none_displaced : (o : Open) → Under k i s.clock s.jobs o → (begun s.clock o).displaced ≡ o.displaced
                 none_displaced o it = by_test o.lasts refl where
                   by_test : (b : Bool) → o.lasts ≡ b → (cond b o
-                      (record { lasts = true; from = s.clock; regular = 0; displaced = 0; first = 0; took = false })).displaced
+                      (record {
+                        lasts = true;
+                        from = s.clock;
+                        regular = 0;
+                        displaced = 0;
+                        first = 0;
+                        took = false;
+                      })).displaced
                       ≡ o.displaced
                   by_test true e = refl
                   by_test false e = sym (ap (λ (y : Open). y.displaced) (it.none e).0)

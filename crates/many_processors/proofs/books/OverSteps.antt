@@ -28,7 +28,8 @@ use Rattle.dover_model.proofs.bound.Counting.{one}
 use Rattle.dover_model.proofs.lists.Members.{each_append, each_cons, member_either, member_front, member_behind}
 use Rattle.std.proofs.Common.{le-leb}
 use Rattle.many_processors.specs.Books.{Interval, Over, job_of, given_at, EndInOrder}
-use Rattle.many_processors.proofs.books.Booked.{GoneSoFar, WasBusy, is_light_on, Open, fallen, fallen_value, is_excused, excused_fell, excused_on}
+use Rattle.many_processors.proofs.books.Booked.{GoneSoFar, WasBusy, is_light_on, Open, fallen, fallen_value, is_excused}
+use Rattle.many_processors.proofs.books.Booked.{excused_fell, excused_on}
 use Rattle.many_processors.proofs.books.Booked.{excused_by, fails_too}
 use Rattle.many_processors.proofs.books.Moved.{light_grows}
 use Rattle.many_processors.proofs.steps.Seeing.{numbers_below}
@@ -109,7 +110,8 @@ module _ (k : Fraction) (v w processors : ℕ) (ran : List (List ℕ)) (J : _) (
     by_excuse (inr it) = excused_on more fell p it.0 (calm p member it.0 it.1)
 
   module _ (way more : ℕ → Open) (fell : ℕ → Bool)
-      (calm : Each (λ p. is_privileged p.task ≡ true → (way p.owner).took ≡ false → (more p.owner).took ≡ false) s.jobs) where
+      (calm : Each (λ p. is_privileged p.task ≡ true → (way p.owner).took ≡ false → (more p.owner).took
+      ≡ false) s.jobs) where
     -- the jobs under way that had a tick have it
     busy_jobs : (τ : ℕ) → Each (λ p. is_over p.task ≡ false → is_excused way fell p ≡ false → p.task.job.release ≤ τ
         → IsMember p.task.number (given_at ran τ)) s.jobs
@@ -121,7 +123,8 @@ module _ (k : Fraction) (v w processors : ℕ) (ran : List (List ℕ)) (J : _) (
         → IsMember u.task.number (given_at ran τ))
         (λ e asked came. never (sym e ∙ over x.task))
         (λ p member differs e asked came. it p member e
-        (fails_too (is_excused way fell p) (is_excused more fell p) (excused_goes way more fell calm p member) asked) came))
+        (fails_too (is_excused way fell p) (is_excused more fell p) (excused_goes way more fell calm p member)
+        asked) came))
 
     -- as it was over before: the busy ticks
     pub busy_before : (overs : List Over) (τ : ℕ) → WasBusy processors ran way fell s.jobs overs τ
@@ -158,11 +161,13 @@ module _ (k : Fraction) (v w processors : ℕ) (ran : List (List ℕ)) (J : _) (
       (λ p member differs. task_stays q (λ u. u) p refl refl)
 
   -- the order of the lists of those that are over is nothing to the busy ticks
-  pub busy_swapped : (way : ℕ → Open) (fell : ℕ → Bool) (jobs : List Placed) (fronts rest : List Over) (o : Over) (τ : ℕ)
+  pub busy_swapped : (way : ℕ → Open) (fell : ℕ → Bool) (jobs : List Placed) (fronts rest : List Over) (o : Over)
+      (τ : ℕ)
       → WasBusy processors ran way fell jobs (o ∷ (fronts ++ rest)) τ
       → WasBusy processors ran way fell jobs (fronts ++ (o ∷ rest)) τ
   busy_swapped way fell jobs fronts rest o τ (inl full) = inl full
-  busy_swapped way fell jobs fronts rest o τ (inr it) = inr (it.0, λ y member. it.1 y (moved (member_either fronts (o ∷ rest) y member)))
+  busy_swapped way fell jobs fronts rest o τ (inr it) = inr
+      (it.0, λ y member. it.1 y (moved (member_either fronts (o ∷ rest) y member)))
     where
       moved : {y : Over} → IsMember y fronts ⊎ ((y ≡ o) ⊎ IsMember y rest) → (y ≡ o) ⊎ IsMember y (fronts ++ rest)
       moved {y} (inl m) = inr (member_front fronts rest y m)
@@ -209,7 +214,8 @@ module _ (k : Fraction) (v w processors : ℕ) (ran : List (List ℕ)) (J : _) (
   module _ (gone : List Over) (missed : List Job)
       (gone_new : (f : Job → ℕ) → sum_by (λ o. f (job_of o)) gone + sum_by f missed
       ≡ sum_by (λ o. f (job_of o)) booked.gone + sum_by f booked.missed + f (number_and_job x))
-      (missed_new : sum_by job_value missed ≤ sum_by job_value booked.missed + cond (booked.fell x.task.number) (value_of x) 0)
+      (missed_new : sum_by job_value missed ≤ sum_by job_value booked.missed
+      + cond (booked.fell x.task.number) (value_of x) 0)
       (busy_new : (τ : ℕ) → WasBusy processors ran booked.way booked.fell s.jobs (booked.taken ++ booked.gone) τ
       → WasBusy processors ran booked.way booked.fell (map leaves s.jobs) (booked.taken ++ gone) τ)
       (gone_are : Each (GoneSoFar k v w processors booked.closed booked.way s.clock s.jobs) booked.gone
@@ -250,7 +256,8 @@ module _ (k : Fraction) (v w processors : ℕ) (ran : List (List ℕ)) (J : _) (
         arith,
         booked.fallen_sum,
         missed_new,
-        fallen_goes k v w processors ran J s booked keeps one_job pressed x x_member not_past Gone (λ t. refl) (λ t. refl)
+        fallen_goes k v w processors ran J s booked keeps one_job pressed x x_member not_past Gone (λ t. refl)
+            (λ t. refl)
             booked.fell,
       );
       covered = booked.covered;
@@ -308,7 +315,8 @@ module _ (k : Fraction) (v w processors : ℕ) (ran : List (List ℕ)) (J : _) (
         before = it.before;
       }
 
-  pub gone_booked : Booked k v w processors ran (record { clock = s.clock; jobs = map leaves s.jobs; pressed = pressed })
+  pub gone_booked : Booked k v w processors ran
+      (record { clock = s.clock; jobs = map leaves s.jobs; pressed = pressed })
   gone_booked = by_fell (booked.fell x.task.number) refl where
     x_on_none : is_privileged x.task ≡ false
     x_on_none = passes is_privileged x.task Waiting false x_waits refl
@@ -324,10 +332,12 @@ module _ (k : Fraction) (v w processors : ℕ) (ran : List (List ℕ)) (J : _) (
         (omega arith)
         (λ τ was. busy_swapped k v w processors ran J s booked keeps one_job pressed x x_member not_past Gone
         (λ t. refl) (λ t. refl) booked.way booked.fell (map leaves s.jobs) booked.taken booked.gone lost_one τ
-        (busy_over k v w processors ran J s booked keeps one_job pressed x x_member not_past Gone (λ t. refl) (λ t. refl)
+        (busy_over k v w processors ran J s booked keeps one_job pressed x x_member not_past Gone (λ t. refl)
+        (λ t. refl)
         booked.way booked.way booked.fell (λ p member on calm. calm)
         booked.taken booked.gone lost_one refl refl (asked e) τ was))
-        (λ all new old. each_cons (GoneSoFar k v w processors booked.closed booked.way s.clock (map leaves s.jobs)) lost_one
+        (λ all new old. each_cons (GoneSoFar k v w processors booked.closed booked.way s.clock (map leaves s.jobs))
+        lost_one
         booked.gone new old)
     by_fell true e = goes_booked booked.gone (number_and_job x ∷ booked.missed)
         (λ f. omega (arith, sum_by-cons f (number_and_job x) booked.missed))

@@ -66,7 +66,8 @@ module _ (v w processors : ℕ) (some : 1 ≤ processors) (J : Instance) (valid 
       (some_work : 1 ≤ w) where
     -- each job is over
     each_over : Each (λ p. is_over p.task ≡ true) s.jobs
-    each_over p member = all_each is_over (tasks_of s.jobs) over p.task (map_member (λ (u : Placed). u.task) s.jobs p member)
+    each_over p member = all_each is_over (tasks_of s.jobs) over p.task
+        (map_member (λ (u : Placed). u.task) s.jobs p member)
 
     off : Each (λ p. is_privileged p.task ≡ false) s.jobs
     off p member = by_role (is_over_role p.task (each_over p member)) where
@@ -175,10 +176,11 @@ module _ (v w processors : ℕ) (some : 1 ≤ processors) (J : Instance) (valid 
     } where
       not_light : (o : Over) (q : ℕ) → booked.way q ≡ shut
           → one (is_light_on J.rules.ratio booked.way s.jobs o q) ≡ 0
-      not_light o q e = shut_first (booked.way q).lasts (nat_le (booked.way q).from o.at) _ (ap (λ (x : Open). x.lasts) e) where
-        shut_first : (a b c : Bool) → a ≡ false → one ((a && b) && c) ≡ 0
-        shut_first false b c e = refl
-        shut_first true b c e = never (sym e)
+      not_light o q e = shut_first (booked.way q).lasts (nat_le (booked.way q).from o.at) _
+          (ap (λ (x : Open). x.lasts) e) where
+            shut_first : (a b c : Bool) → a ≡ false → one ((a && b) && c) ≡ 0
+            shut_first false b c e = refl
+            shut_first true b c e = never (sym e)
 
       by_cover : (τ : ℕ) → (τ < s.clock) ⊎ (s.clock ≤ τ) → open_at booked.closed τ ≤ length (given_at ran τ)
       by_cover τ (inl less) = omega (arith, booked.covered τ less)
@@ -291,7 +293,8 @@ module _ (v w processors : ℕ) (some : 1 ≤ processors) (J : Instance) (valid 
       (ended_bound out.last out.ran out.keeps out.holds out.over some_work schedule few)
 
 -- the books of a run that ends, with the ticks that it gives
-pub run_books : (processors : ℕ) (J : Instance) → 1 ≤ processors → IsValid J → HasEnd (run processors J) → (j : JobFacts)
+pub run_books : (processors : ℕ) (J : Instance) → 1 ≤ processors → IsValid J → HasEnd (run processors J)
+    → (j : JobFacts)
     → IsLeastDense J j → AreBooks J.rules.ratio j.value j.work processors (numbered J) (ran processors J)
 run_books processors J some valid ends j least =
     let modest = least_modest J valid j least in

@@ -11,25 +11,27 @@ use Rattle.dover_model.specs.declared.events.Role.TheVariants.{Coming, Fresh, Wa
 use Rattle.dover_model.specs.Fraction.{Fraction}
 use Rattle.dover_model.specs.Orders.{is_heavy}
 use Rattle.dover_model.specs.Books.{job_value}
-use Rattle.dover_model.specs.Common.{Rules, Instance, IsValid, is_privileged, is_done, is_over, is_waiting, is_running, left}
-use Rattle.dover_model.specs.Common.{IsMember, Each, with_role, running, first, NoneRuns, value_sum, privileged, IsHeavy}
+use Rattle.dover_model.specs.Common.{Rules, Instance, IsValid, is_privileged, is_done, is_over, is_waiting, is_running}
+use Rattle.dover_model.specs.Common.{left}
+use Rattle.dover_model.specs.Common.{IsMember, Each, with_role, running, first, NoneRuns, value_sum, privileged}
+use Rattle.dover_model.specs.Common.{IsHeavy}
 use Rattle.dover_model.specs.Common.{latest_start, is_at_latest_start, starts_before, FitsRole}
 use Rattle.dover_model.specs.Step as single
 use Rattle.dover_model.proofs.bound.Booked.{IsModest}
 use Rattle.dover_model.proofs.bound.Calculus.{heavy_mono}
 use Rattle.dover_model.proofs.bound.Counting.{one}
 use Rattle.dover_model.proofs.lists.Tests.{never}
-use Rattle.dover_model.proofs.lists.Members.{map_member, sum_same, sum_map, sum_filter, member_filter, found, term_le_sum}
+use Rattle.dover_model.proofs.lists.Members.{map_member, sum_same, sum_map, sum_filter, member_filter, found}
+use Rattle.dover_model.proofs.lists.Members.{term_le_sum}
 use Rattle.dover_model.proofs.lists.Members.{each_cons}
 use Rattle.dover_model.proofs.lists.FirstOfTasks.{first_member}
 use Rattle.dover_model.proofs.steps.Roles.{passes, is_privileged_role, is_running_role, is_waiting_role}
 use Rattle.dover_model.proofs.steps.Loads.{load}
-use Rattle.dover_model.proofs.steps.Cases.{Case, Completes, Resumes, Starts, Begins, Preempts, Stays, Arrives, Takes}
-use Rattle.dover_model.proofs.steps.Cases.{Abandons, Rests}
 use Rattle.dover_model.proofs.steps.Deeds.{Deed, Completed, Resumed, Started, Began, Preempted, Stayed, Arrived}
 use Rattle.dover_model.proofs.steps.Deeds.{Taken, Abandoned, Rested, deed_of}
 use Rattle.many_processors.specs.State.{Placed, State, tasks_of, seen_by, seen_from}
-use Rattle.many_processors.specs.Step.{Move, Prints, Waits, Ticks, on, Seen, seen, all_seen, is_own_of, numbers_from, after}
+use Rattle.many_processors.specs.Step.{Move, Prints, Waits, Ticks, on, Seen, seen, all_seen, is_own_of, numbers_from}
+use Rattle.many_processors.specs.Step.{after}
 use Rattle.many_processors.specs.Step.{completion, is_free}
 use Rattle.many_processors.specs.Sound.{Keeps}
 use Rattle.many_processors.specs.Books.{Over, job_of, TakenIn, IsPaidTwice}
@@ -44,14 +46,16 @@ use Rattle.many_processors.proofs.steps.Stepping.{real, same_job}
 use Rattle.many_processors.proofs.runs.EachStep.{is_tick, no_tick}
 use Rattle.many_processors.proofs.runs.Outcomes.{ran_after}
 use Rattle.many_processors.proofs.steps.Turns.{which, running_job, all_quiet, of_tasks}
-use Rattle.many_processors.proofs.books.Booked.{own_sum, value_of, number_and_job, Taker, comes_to, Booked, Open, shut, is_excused}
+use Rattle.many_processors.proofs.books.Booked.{own_sum, value_of, number_and_job, Taker, comes_to, Booked, Open, shut}
+use Rattle.many_processors.proofs.books.Booked.{is_excused}
 use Rattle.many_processors.proofs.books.MovedSteps.{off_booked, same_booked, run_booked, at_one, on_each}
 use Rattle.many_processors.proofs.books.TakenSteps.{preempt_booked, take_booked}
 use Rattle.many_processors.proofs.books.OverSteps.{gone_booked, busy_before, busy_over}
 use Rattle.many_processors.proofs.books.DoneSteps.{close_booked, goes_on_booked, had_worth}
 use Rattle.many_processors.proofs.books.TickSteps.{ticks_booked}
 
-module _ (k : Fraction) (some_q : 1 ≤ k.q) (ratio : k.q ≤ k.p) (v w processors : ℕ) (some : 1 ≤ processors) (J : Instance)
+module _ (k : Fraction) (some_q : 1 ≤ k.q) (ratio : k.q ≤ k.p) (v w processors : ℕ) (some : 1
+    ≤ processors) (J : Instance)
     (valid : IsValid J) (modest_jobs : Each (IsModest k v w) J.jobs) (ran : List (List ℕ)) (s : State)
     (keeps : Keeps processors J s) (booked : Booked k v w processors ran s) where
   -- the jobs are modest
@@ -173,8 +177,10 @@ module _ (k : Fraction) (some_q : 1 ≤ k.q) (ratio : k.q ≤ k.p) (v w processo
         ((booked.way x.owner).regular + x.task.job.value) 0 0
         (λ f. omega (arith, sum_by-cons f (number_and_job x) booked.regular))
         (omega (arith, sum_by-cons job_value (number_and_job x) booked.regular))
-        (omega arith) (omega arith) (subst (λ n. IsPaidTwice k 0 n 0) (sym nothing_first) (twice_zero k 0)) (omega arith)
-        (λ τ was. busy_before k v w processors ran J s booked keeps one_job pressed x x_member not_past_on Done (λ t. refl)
+        (omega arith) (omega arith) (subst (λ n. IsPaidTwice k 0 n 0) (sym nothing_first) (twice_zero k 0))
+        (omega arith)
+        (λ τ was. busy_before k v w processors ran J s booked keeps one_job pressed x x_member not_past_on Done
+        (λ t. refl)
         (λ t. refl) booked.way (at_one x.owner shut booked.way) booked.fell end_calm
         (booked.taken ++ booked.gone) τ was)
         (omega (arith, had_paid, ap (λ n. w * n) nothing)) booked.taken_are where
@@ -196,7 +202,8 @@ module _ (k : Fraction) (some_q : 1 ≤ k.q) (ratio : k.q ≤ k.p) (v w processo
           → Result
       by_rest calm (inr it) =
           let both = and_parts (is_own_of x.owner it.0) (not (eqb it.0.task.number x.task.number)) it.2 in
-          goes_on_booked k v w processors ran J s booked keeps one_job pressed x x_member x_on (modest x x_member).1 calm
+          goes_on_booked k v w processors ran J s booked keeps one_job pressed x x_member x_on (modest x x_member).1
+          calm
           it.0 it.1 both.0 (λ same. never (sym (negated (eqb it.0.task.number x.task.number) both.1) ∙ eq-eqb _ _ same))
         where
           negated : (b : Bool) → not b ≡ true → b ≡ false
@@ -253,7 +260,8 @@ module _ (k : Fraction) (some_q : 1 ≤ k.q) (ratio : k.q ≤ k.p) (v w processo
     none_own : NoneRuns (map (seen_by i) s.jobs) → Each (λ p. p.task.role ≡ Running → p.owner ≡ i → ⊥) s.jobs
     none_own none p member runs own =
         let seen_p : seen_by i p ≡ p.task = own_seen i p own in
-        none p.task (subst (λ t. IsMember t (map (seen_by i) s.jobs)) seen_p (map_member (seen_by i) s.jobs p member)) runs
+        none p.task (subst (λ t. IsMember t (map (seen_by i) s.jobs)) seen_p
+        (map_member (seen_by i) s.jobs p member)) runs
 
     own_one : (r : Task) → IsMember r (map (seen_by i) s.jobs) → r.role ≡ Running
         → (x : Placed) × IsMember x s.jobs × (x.task ≡ r) × (x.owner ≡ i)
@@ -281,7 +289,8 @@ module _ (k : Fraction) (some_q : 1 ≤ k.q) (ratio : k.q ≤ k.p) (v w processo
         subst (λ (u : Task). Booked k v w processors ran (after s (Prints i (Complete s.clock u.number)))) x.2
         (done_booked _ x.0 x.1 (passes is_privileged x.0.task Running true (ap (λ (u : Task). u.role) x.2 ∙ runs) refl))
     deed_booked m (Resumed p member held none least why) kind = runs Held (λ e. cc) (λ t. refl) p member held none
-    deed_booked m (Started o member waits none first fits next) kind = runs Waiting (λ e. cc) (λ t. refl) o member waits none
+    deed_booked m (Started o member waits none first fits next) kind = runs Waiting (λ e. cc) (λ t. refl) o member
+        waits none
     deed_booked m (Began f member fresh none free) kind = runs Fresh (λ e. cc) (λ t. refl) f member fresh none
     deed_booked m (Preempted r f member runs some_r f_member fresh before fits) kind =
         let y = own_one r member runs in
@@ -370,8 +379,10 @@ module _ (rules : Rules) (some_q : 1 ≤ rules.ratio.q) (above : rules.ratio.q �
       subst (λ (y : Move). Booked rules.ratio v w processors ran (after s y))
       (ap (λ n. Prints q.processor (Abandon q.view.clock n)) (ap (λ (t : Task). t.number) x.2) ∙ sym it.is)
       (gone_booked rules.ratio v w processors ran J s booked keeps
-      (one_job rules.ratio some_q above v w processors some J valid modest_jobs ran s keeps booked) true x.0 x.1 is_w now
-      (modest rules.ratio some_q above v w processors some J valid modest_jobs ran s keeps booked x.0 x.1).0 all_light) where
+      (one_job rules.ratio some_q above v w processors some J valid modest_jobs ran s keeps booked) true x.0 x.1
+      is_w now
+      (modest rules.ratio some_q above v w processors some J valid modest_jobs ran s keeps booked x.0 x.1).0
+      all_light) where
         is_seen : (q ≡ seen rules.version s q.processor) × (q.processor < processors)
         is_seen = which processors J valid some rules s keeps q member
 

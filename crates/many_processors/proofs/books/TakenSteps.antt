@@ -20,10 +20,12 @@ use Rattle.many_processors.specs.State.{Placed, State}
 use Rattle.many_processors.specs.Step.{is_own_of, numbers_from, placed_after, in_role, placed_on}
 use Rattle.many_processors.specs.Sound.{Keeps}
 use Rattle.many_processors.proofs.books.Booked.{Open, own_sum, placed_sum, value_of, comes_to}
-use Rattle.many_processors.proofs.books.Booked.{Taker, Under, Booked, sum_on, sum_at, fallen, fallen_value, is_excused, excused_fell, excused_on, excused_by}
+use Rattle.many_processors.proofs.books.Booked.{Taker, Under, Booked, sum_on, sum_at, fallen, fallen_value, is_excused}
+use Rattle.many_processors.proofs.books.Booked.{excused_fell, excused_on, excused_by}
 use Rattle.many_processors.proofs.steps.Seeing.{below_numbers}
 use Rattle.many_processors.proofs.steps.Kept.{had_most}
-use Rattle.many_processors.proofs.books.Moved.{StaysFor, own_same, own_stays, under_stays, SameBooks, StaysExcused, same_fallen, moved_booked}
+use Rattle.many_processors.proofs.books.Moved.{StaysFor, own_same, own_stays, under_stays, SameBooks, StaysExcused}
+use Rattle.many_processors.proofs.books.Moved.{same_fallen, moved_booked}
 use Rattle.many_processors.proofs.books.MovedSteps.{role_books, task_books, task_stays, off_own, other_own, own_grows}
 use Rattle.many_processors.proofs.books.MovedSteps.{placed_grows, sum_paid, at_one, on_each}
 
@@ -84,13 +86,16 @@ module _ (k : Fraction) (v w processors : ℕ) (ran : List (List ℕ)) (J : _) (
         by_test (eqb p.task.number x.task.number) (eqb p.task.number y.task.number) refl refl where
           by_test : (b c : Bool) → eqb p.task.number x.task.number ≡ b → eqb p.task.number y.task.number ≡ c
               → P p (cond b (placed_on i p) (cond c (in_role p Held) p))
-          by_test true c e f = subst (λ u. P u (placed_on i u)) (sym (one_job p x member x_member (eqb-true _ _ e))) begin
-          by_test false true e f = subst (λ u. P u (in_role u Held)) (sym (one_job p y member y_member (eqb-true _ _ f)))
+          by_test true c e f = subst (λ u. P u (placed_on i u)) (sym (one_job p x member x_member (eqb-true _ _ e)))
+              begin
+          by_test false true e f = subst (λ u. P u (in_role u Held))
+              (sym (one_job p y member y_member (eqb-true _ _ f)))
               hold
           by_test false false e f = others p member
 
     x_there : is_own_of i (held_by x) ≡ true
-    x_there = begins held_by (is_x (λ p b. cond b (placed_on i p) (cond (eqb p.task.number y.task.number) (in_role p Held) p)))
+    x_there = begins held_by
+        (is_x (λ p b. cond b (placed_on i p) (cond (eqb p.task.number y.task.number) (in_role p Held) p)))
 
     own_stays_on : Each (λ p. is_own_of i p ≡ true → is_own_of i (held_by p) ≡ true) s.jobs
     own_stays_on = preempt_parts (λ p u. is_own_of i p ≡ true → is_own_of i u ≡ true) (λ _. eq-eqb i i refl)
@@ -157,7 +162,8 @@ module _ (k : Fraction) (v w processors : ℕ) (ran : List (List ℕ)) (J : _) (
 
           by_processor : (q : ℕ) → q < processors → (b : Bool) → eqb i q ≡ b
               → Under k q s.clock (map held_by s.jobs) (booked.way q)
-          by_processor q low true e = subst (λ n. Under k n s.clock (map held_by s.jobs) (booked.way n)) (eqb-true _ _ e)
+          by_processor q low true e = subst (λ n. Under k n s.clock (map held_by s.jobs) (booked.way n))
+              (eqb-true _ _ e)
               preempt_under
           by_processor q low false e = under_stays k q s.clock s.jobs held_by (booked.way q)
               (others_stay q (eqb-false _ _ e)) (booked.under q low)
@@ -165,8 +171,10 @@ module _ (k : Fraction) (v w processors : ℕ) (ran : List (List ℕ)) (J : _) (
           by_sum : (q : ℕ) → (b : Bool) → eqb i q ≡ b
               → comes_to booked.way s.jobs q ≤ comes_to booked.way (map held_by s.jobs) q
           by_sum q true e = subst (λ n. comes_to booked.way s.jobs n ≤ comes_to booked.way (map held_by s.jobs) n)
-              (eqb-true _ _ e) (omega (arith, own_grows i held_by s.jobs (λ p member. (same p member).job) own_stays_on))
-          by_sum q false e = omega (arith, own_stays q held_by (λ t. t.job.value) s.jobs (others_stay q (eqb-false _ _ e)))
+              (eqb-true _ _ e) (omega
+              (arith, own_grows i held_by s.jobs (λ p member. (same p member).job) own_stays_on))
+          by_sum q false e = omega
+              (arith, own_stays q held_by (λ t. t.job.value) s.jobs (others_stay q (eqb-false _ _ e)))
 
   -- ---- x takes from y
 
@@ -186,7 +194,8 @@ module _ (k : Fraction) (v w processors : ℕ) (ran : List (List ℕ)) (J : _) (
         by_test (eqb p.task.number x.task.number) (is_own_of i p) refl refl where
           by_test : (b c : Bool) → eqb p.task.number x.task.number ≡ b → is_own_of i p ≡ c
               → P p (cond b (placed_on i p) (cond c (in_role p Waiting) p))
-          by_test true c e f = subst (λ u. P u (placed_on i u)) (sym (one_job p x member x_member (eqb-true _ _ e))) begin
+          by_test true c e f = subst (λ u. P u (placed_on i u)) (sym (one_job p x member x_member (eqb-true _ _ e)))
+              begin
           by_test false true e f = stop p member (eqb-false _ _ e) f
           by_test false false e f = others p member (eqb-false _ _ e) f
 
@@ -242,13 +251,15 @@ module _ (k : Fraction) (v w processors : ℕ) (ran : List (List ℕ)) (J : _) (
       some_here : (us : List Placed) → IsMember p us → is_own_of i p ≡ true
           → list_any (λ u. eqb u.task.number p.task.number && is_own_of i u) us ≡ true
       some_here [] m own = absurd m
-      some_here (u ∷ us) (inl e) own = ap (λ b. b || list_any (λ z. eqb z.task.number p.task.number && is_own_of i z) us)
+      some_here (u ∷ us) (inl e) own = ap
+          (λ b. b || list_any (λ z. eqb z.task.number p.task.number && is_own_of i z) us)
           (subst (λ z. (eqb z.task.number p.task.number && is_own_of i z) ≡ true) e
           (ap (λ b. b && is_own_of i p) (eq-eqb _ _ refl) ∙ own))
-      some_here (u ∷ us) (inr m) own = either (eqb u.task.number p.task.number && is_own_of i u) (some_here us m own) where
-        either : (b : Bool) {c : Bool} → c ≡ true → (b || c) ≡ true
-        either true e = refl
-        either false e = e
+      some_here (u ∷ us) (inr m) own = either (eqb u.task.number p.task.number && is_own_of i u)
+          (some_here us m own) where
+            either : (b : Bool) {c : Bool} → c ≡ true → (b || c) ≡ true
+            either true e = refl
+            either false e = e
 
       none_here : (us : List Placed) → Each (λ u. IsMember u s.jobs) us → is_own_of i p ≡ false
           → list_any (λ u. eqb u.task.number p.task.number && is_own_of i u) us ≡ false
@@ -269,7 +280,8 @@ module _ (k : Fraction) (v w processors : ℕ) (ran : List (List ℕ)) (J : _) (
     abbrev fell_now : ℕ → Bool
     fell_now n = booked.fell n || (not (booked.way i).took && on_here n)
 
-    fell_same : Each (λ p. fell_now p.task.number ≡ (booked.fell p.task.number || (not (booked.way i).took && is_own_of i p)))
+    fell_same : Each (λ p. fell_now p.task.number
+        ≡ (booked.fell p.task.number || (not (booked.way i).took && is_own_of i p)))
         s.jobs
     fell_same p member = ap (λ b. booked.fell p.task.number || (not (booked.way i).took && b)) (on_here_is p member)
 
@@ -299,7 +311,8 @@ module _ (k : Fraction) (v w processors : ℕ) (ran : List (List ℕ)) (J : _) (
             arith,
             same_there p member not_own,
           ))),
-      sum_plus (fallen_value booked.fell) (λ p. cond (booked.way i).took 0 (cond (is_own_of i p) (value_of p) 0)) s.jobs,
+      sum_plus (fallen_value booked.fell) (λ p. cond (booked.way i).took 0 (cond (is_own_of i p) (value_of p) 0))
+          s.jobs,
       all_or_none (booked.way i).took,
     ) where
       not_past : (t : Task) → is_privileged t ≡ true → is_over t ≡ false
@@ -323,7 +336,8 @@ module _ (k : Fraction) (v w processors : ℕ) (ran : List (List ℕ)) (J : _) (
 
       same_there : Each (λ p. is_own_of i p ≡ false → fallen_value fell_now p ≡ fallen_value booked.fell p) s.jobs
       same_there p member not_own = ap (λ b. cond (is_over p.task) 0 (cond b (value_of p) 0))
-          (fell_same p member ∙ none_more (booked.fell p.task.number) (not (booked.way i).took) (is_own_of i p) not_own) where
+          (fell_same p member ∙ none_more (booked.fell p.task.number) (not (booked.way i).took) (is_own_of i p)
+          not_own) where
             none_more : (a b c : Bool) → c ≡ false → (a || (b && c)) ≡ a
             none_more true b c e = refl
             none_more false true c e = e
@@ -355,8 +369,10 @@ module _ (k : Fraction) (v w processors : ℕ) (ran : List (List ℕ)) (J : _) (
                 → lost ≡ t.job.task.job.value
             single t = omega (
               arith,
-              sum_at (λ p. cond (is_own_of i p) (value_of p) 0) (λ p. 0) 0 s.jobs t.job (keeps.sound 0).numbered t.member
-                  (λ p member differs. ap (λ b. cond b (value_of p) 0) (none_own p member differs (is_own_of i p) refl)),
+              sum_at (λ p. cond (is_own_of i p) (value_of p) 0) (λ p. 0) 0 s.jobs t.job (keeps.sound 0).numbered
+                  t.member
+                  (λ p member differs. ap (λ b. cond b (value_of p) 0)
+                  (none_own p member differs (is_own_of i p) refl)),
               ap (λ b. cond b t.job.task.job.value 0) (subst (λ u. is_own_of i u ≡ true) (is_taker t) y_own),
               sum_zero (λ (p : Placed). 0) s.jobs (λ p member. refl),
             ) where
@@ -431,7 +447,8 @@ module _ (k : Fraction) (v w processors : ℕ) (ran : List (List ℕ)) (J : _) (
       jobs = map (placed_after i (Take at y.task.number x.task.number)) s.jobs;
       pressed = pressed;
     })
-    take_booked = moved_booked k v w processors ran s booked displaced_by pressed (at_one i took_way booked.way) fell_now same
+    take_booked = moved_booked k v w processors ran s booked displaced_by pressed (at_one i took_way booked.way)
+        fell_now same
         excused (omega (arith, falls, more_first))
         (λ q low. on_each (λ q o. q < processors → Under k q s.clock (map displaced_by s.jobs) o) i took_way booked.way
         (λ _. take_under)
@@ -442,7 +459,8 @@ module _ (k : Fraction) (v w processors : ℕ) (ran : List (List ℕ)) (J : _) (
         × (o.from ≡ (booked.way q).from)) ⊎ (o.from ≡ s.clock)) i took_way booked.way
         (λ _. inl (i_lasts, refl)) (λ q other e. inl (e, refl)) q)
         (λ q low. on_each (λ q o. (booked.way q).lasts ≡ true → (o.lasts ≡ true) × (o.from ≡ (booked.way q).from)
-        × ((booked.way q).regular + own_sum q value_of s.jobs ≤ o.regular + own_sum q value_of (map displaced_by s.jobs))) i
+        × ((booked.way q).regular + own_sum q value_of s.jobs ≤ o.regular
+        + own_sum q value_of (map displaced_by s.jobs))) i
         took_way booked.way
         (λ _. (refl, refl, omega (arith, x_worth, heavy_more k x.task.job.value lost heavy)))
         (λ q other e. (
@@ -451,7 +469,8 @@ module _ (k : Fraction) (v w processors : ℕ) (ran : List (List ℕ)) (J : _) (
           omega (arith, own_stays q displaced_by (λ t. t.job.value) s.jobs (stays_beside q other)),
         )) q)
         (omega (arith, had_paid, ap (λ n. w * n) more_displaced)) where
-          excused : Each (StaysExcused booked.way (at_one i took_way booked.way) booked.fell fell_now displaced_by) s.jobs
+          excused : Each (StaysExcused booked.way (at_one i took_way booked.way) booked.fell fell_now displaced_by)
+              s.jobs
           excused = take_parts (λ p u. is_excused booked.way booked.fell p ≡ true
               → is_excused (at_one i took_way booked.way) fell_now u ≡ true)
               (λ e. excused_fell (at_one i took_way booked.way) fell_now (placed_on i x)

@@ -15,7 +15,8 @@ use Rattle.dover_model.specs.Common.{left, IsMember, Each, running, NoneRuns}
 use Rattle.dover_model.proofs.bound.Booking.{is_gone}
 use Rattle.dover_model.proofs.bound.Counting.{one}
 use Rattle.dover_model.proofs.lists.Tests.{never}
-use Rattle.dover_model.proofs.lists.Members.{map_member, sum_le, sum_same, sum_map, sum_plus, on_map, sum_zero, term_le_sum}
+use Rattle.dover_model.proofs.lists.Members.{map_member, sum_le, sum_same, sum_map, sum_plus, on_map, sum_zero}
+use Rattle.dover_model.proofs.lists.Members.{term_le_sum}
 use Rattle.dover_model.proofs.lists.Members.{filter_member, found, reduce_none, member_either}
 use Rattle.dover_model.proofs.steps.Roles.{passes, is_privileged_role, is_running_role}
 use Rattle.dover_model.proofs.steps.Ticking.{Quiet}
@@ -105,7 +106,8 @@ running_count [] = refl
 running_count (p ∷ jobs) = by_test (is_running p.task) refl (running_count jobs) where
   by_test : (b : Bool) → is_running p.task ≡ b
       → length (map (λ t. t.number) (filter is_running (tasks_of jobs))) ≡ sum_by (λ p. one (is_running p.task)) jobs
-      → length (map (λ t. t.number) (cond b (p.task ∷ filter is_running (tasks_of jobs)) (filter is_running (tasks_of jobs))))
+      → length (map (λ t. t.number)
+      (cond b (p.task ∷ filter is_running (tasks_of jobs)) (filter is_running (tasks_of jobs))))
       ≡ sum_by (λ p. one (is_running p.task)) (p ∷ jobs)
   by_test true e ih = omega (arith, ih, sum_by-cons (λ u. one (is_running u.task)) p jobs, ap one e)
   by_test false e ih = omega (arith, ih, sum_by-cons (λ u. one (is_running u.task)) p jobs, ap one e)
@@ -177,7 +179,8 @@ module _ (k : Fraction) (v w processors : ℕ) (ran : List (List ℕ)) (J : _) (
   runs_here q p member runs own = omega (
     arith,
     term_le_sum (λ u. one (serves q u)) s.jobs p member,
-    ap one (first_of (is_running p.task) (p.owner == q) (passes is_running p.task Running true runs refl) (eq-eqb _ _ own)),
+    ap one (first_of (is_running p.task) (p.owner == q) (passes is_running p.task Running true runs refl)
+        (eq-eqb _ _ own)),
   ) where
     first_of : (a b : Bool) → a ≡ true → b ≡ true → (a && b) ≡ true
     first_of true true e f = refl
@@ -232,13 +235,15 @@ module _ (k : Fraction) (v w processors : ℕ) (ran : List (List ℕ)) (J : _) (
       → Each (λ p. p.task.role ≡ Waiting → ⊥) s.jobs
   none_waits q less free p member waits =
       reduce_none _ (filter is_waiting (tasks_of s.jobs))
-      (sym (seen_sees rules.version s q).first_waiting ∙ quiet.waiting (seen rules.version s q) (see q less) free) p.task
+      (sym (seen_sees rules.version s q).first_waiting ∙ quiet.waiting (seen rules.version s q) (see q less) free)
+      p.task
       (filter_member is_waiting (tasks_of s.jobs) p.task (map_member (λ (u : Placed). u.task) s.jobs p member)
       (passes is_waiting p.task Waiting true waits refl))
 
   -- in the tick all processors are busy, or each ready job that isn't excused has it
   abbrev AllHave : Type 0
-  AllHave = Each (λ p. is_over p.task ≡ false → is_excused booked.way booked.fell p ≡ false → p.task.job.release ≤ s.clock
+  AllHave = Each (λ p. is_over p.task ≡ false → is_excused booked.way booked.fell p ≡ false → p.task.job.release
+      ≤ s.clock
       → IsMember p.task.number names) s.jobs
 
   ready_have : Each (λ p. p.task.role ≡ Waiting → ⊥) s.jobs → AllHave
@@ -385,7 +390,8 @@ module _ (k : Fraction) (v w processors : ℕ) (ran : List (List ℕ)) (J : _) (
     sum_same (λ p. cond (is_privileged (ticked p).task) (ticked p).task.had 0)
         (λ p. cond (is_privileged p.task) p.task.had 0 + one (is_running p.task)) s.jobs
         (λ p member. ap (λ b. cond b (ticked p).task.had 0) (role_test is_privileged (λ t n m. refl) p)
-        ∙ by_on (is_privileged p.task) (is_running p.task) p.task.had (ticked p).task.had (tick_plain p).4 (running_on p)),
+        ∙ by_on (is_privileged p.task) (is_running p.task) p.task.had (ticked p).task.had (tick_plain p).4
+        (running_on p)),
     sum_plus (λ p. cond (is_privileged p.task) p.task.had 0) (λ p. one (is_running p.task)) s.jobs,
   ) where
     by_on : (a b : Bool) (m n : ℕ) → n ≡ m + one b → (b ≡ true → a ≡ true) → cond a n 0 ≡ cond a m 0 + one b
@@ -487,7 +493,8 @@ module _ (k : Fraction) (v w processors : ℕ) (ran : List (List ℕ)) (J : _) (
 
     by_busy : (τ : ℕ) → τ < s.clock + 1 → (τ < s.clock) ⊎ (s.clock ≤ τ)
         → WasBusy processors ran_more booked.way booked.fell (map ticked s.jobs) (booked.taken ++ booked.gone) τ
-    by_busy τ before (inl less) = still τ (given_front ran names τ (omega (arith, booked.ticks, less))) (booked.busy τ less)
+    by_busy τ before (inl less) = still τ (given_front ran names τ (omega (arith, booked.ticks, less)))
+        (booked.busy τ less)
     by_busy τ before (inr high) = now busy_now where
       is_now : τ ≡ s.clock
       is_now = omega (arith, before, high)
@@ -506,7 +513,8 @@ module _ (k : Fraction) (v w processors : ℕ) (ran : List (List ℕ)) (J : _) (
           → WasBusy processors ran_more booked.way booked.fell (map ticked s.jobs) (booked.taken ++ booked.gone) τ
       now (inl full) = inl (omega (arith, full, ap (λ (ns : List ℕ). length ns) given))
       now (inr have) = inr (
-        on_map ticked (λ p. is_over p.task ≡ false → is_excused booked.way booked.fell p ≡ false → p.task.job.release ≤ τ
+        on_map ticked (λ p. is_over p.task ≡ false → is_excused booked.way booked.fell p ≡ false
+            → p.task.job.release ≤ τ
             → IsMember p.task.number (given_at ran_more τ)) s.jobs
             (λ p member is_ready asked came. subst (λ ns. IsMember (ticked p).task.number ns) (sym given)
             (subst (λ n. IsMember n names) (sym (tick_plain p).0)

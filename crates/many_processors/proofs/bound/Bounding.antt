@@ -24,16 +24,17 @@ use Rattle.many_processors.proofs.bound.Summing.{works_fit}
 
 -- ---- numbers
 
--- what a schedule earns by jobs completed before a take (usual, of r), after one (served, of served + other), by those
--- that a first take displaced (lost, of e; of which so much, spare, is completed), set aside (aside) and abandoned besides
--- (rest, of so much work), where they fit the ticks
+-- what a schedule earns by jobs completed before a take (usual, of r), after one (served, of served + other), by
+-- those that a first take displaced (lost, of e; of which so much, spare, is completed), set aside (aside) and
+-- abandoned besides (rest, of so much work), where they fit the ticks
 parts_most : (p q v w usual served other spare lost aside rest work ticks had other_had r d e y : ℕ) → 1 ≤ w → q ≤ p
     → usual ≤ r → lost ≤ e
     → work + had ≤ ticks → v * ticks ≤ w * (r + d + spare) + v * (had + other_had) → v * other_had ≤ w * other
     → q * w * rest ≤ p * v * work → aside ≤ (r + (served + other + spare)) + y
     → q * (usual + served + lost + (aside + rest))
     ≤ (p + q) * (r + (served + other + spare)) + (q * r + (p * d + q * e) + q * y)
-parts_most p q v w usual served other spare lost aside rest work ticks had other_had r d e y some ratio low few fit paid own
+parts_most p q v w usual served other spare lost aside rest work ticks had other_had r d e y some ratio low few fit
+    paid own
     dense little =
     let fit_times : p * v * (work + had) ≤ p * v * ticks = mul-le-mul_left (p * v) fit in
     let paid_times : p * (v * ticks) ≤ p * (w * (r + d + spare) + v * (had + other_had)) = mul-le-mul_left p paid in
@@ -149,7 +150,8 @@ module _ (k : Fraction) (v w : ℕ) (processors : ℕ) (jobs : List Job) (ran : 
     arith,
     sum_filter serves f books.taken,
     sum_plus (λ o. cond (serves o) (f o) 0) (λ o. cond (serves o) 0 (f o)) books.taken,
-    sum_same f (λ o. cond (serves o) (f o) 0 + cond (serves o) 0 (f o)) books.taken (λ o member. split (serves o) (f o)),
+    sum_same f (λ o. cond (serves o) (f o) 0
+        + cond (serves o) 0 (f o)) books.taken (λ o member. split (serves o) (f o)),
   ) where
     split : (b : Bool) (n : ℕ) → n ≡ cond b n 0 + cond b 0 n
     split true n = omega arith
@@ -157,7 +159,8 @@ module _ (k : Fraction) (v w : ℕ) (processors : ℕ) (jobs : List Job) (ran : 
 
   -- their values pay for the ticks that they had
   unserved_paid : v * unserved (λ o. o.had) ≤ w * unserved (λ o. o.job.value)
-  unserved_paid = scaled_sum v w (λ (o : Over). cond (serves o) 0 o.had) (λ o. cond (serves o) 0 o.job.value) books.taken
+  unserved_paid = scaled_sum v w (λ (o : Over). cond (serves o) 0 o.had) (λ o. cond (serves o) 0 o.job.value)
+      books.taken
       (λ o member. by_test (serves o) o.had o.job.value (books.taken_are o member).had_paid) where
         by_test : (b : Bool) (had value : ℕ) → v * had ≤ w * value → v * cond b 0 had ≤ w * cond b 0 value
         by_test true had value paid = omega arith
@@ -267,6 +270,8 @@ module _ (k : Fraction) (v w : ℕ) (processors : ℕ) (jobs : List Job) (ran : 
   -- no schedule is worth more than the bound of what is completed
   pub many_bound : IsWithin k (worth jobs s) (sum_by completed_in books.intervals)
   many_bound = subst (IsWithin k (worth jobs s)) (sym completed_parts)
-      (within_twice k books.some_q books.ratio (worth jobs s) regular_all taken_all displaced_all first_all above_all most
-      (twice_sum k books.some_q books.ratio (λ (i : Interval). i.displaced) (λ i. i.first) (λ i. i.taken) books.intervals
+      (within_twice k books.some_q books.ratio (worth jobs s) regular_all taken_all displaced_all first_all
+      above_all most
+      (twice_sum k books.some_q books.ratio (λ (i : Interval). i.displaced) (λ i. i.first) (λ i. i.taken)
+      books.intervals
       books.displaced) little)

@@ -1,5 +1,5 @@
--- What takes displace, and the part of it that is displaced by a first take once more, is paid by what is completed after
--- takes.
+-- What takes displace, and the part of it that is displaced by a first take once more, is paid by what is completed
+-- after takes.
 use Rattle.std.proofs.Common.{◌≡◌, ℕ, ◌+◌, ◌-◌, ◌*◌, ◌≤◌, ◌<◌, ◌⊎◌, inl, inr, List, [], ◌∷◌, refl, sym, ap, subst}
 use Rattle.std.proofs.Common.{arith, IsTrue, max, Option, Some, None, sum_by}
 use Rattle.std.proofs.lemmas.Bool.{cases_lt}
@@ -8,8 +8,10 @@ use Rattle.std.proofs.lemmas.List.Sums.{sum_by-cons}
 use Rattle.dover_model.specs.declared.factors.Factor.{Factor}
 use Rattle.dover_model.specs.Common.{Fraction, IsHeavy, IsWithin, is_within_by, Each}
 use Rattle.dover_model.specs.Common.{IsExcessBy, IsExcess}
-use Rattle.dover_model.proofs.bound.Calculus.{Below, HeavyBy, cancel, below_add, below_mono, regular_below, displaced_below}
-use Rattle.dover_model.proofs.bound.Calculus.{excess_below, within_from, factor_agrees, factor_over, root_excess, heavy_more}
+use Rattle.dover_model.proofs.bound.Calculus.{Below, HeavyBy, cancel, below_add, below_mono, regular_below}
+use Rattle.dover_model.proofs.bound.Calculus.{displaced_below}
+use Rattle.dover_model.proofs.bound.Calculus.{excess_below, within_from, factor_agrees, factor_over, root_excess}
+use Rattle.dover_model.proofs.bound.Calculus.{heavy_more}
 use Rattle.many_processors.specs.Books.{IsPaidTwiceBy, IsPaidTwice}
 
 -- ---- by the root
@@ -60,7 +62,8 @@ linear_next p g c m x w v some other paid heavy =
     cancel c (g * (x + p * w)) (m * v) some (omega (arith, times, before, double))
 
 -- the sum of an interval's parts
-linear_within : (t u h c e m o r z x y : ℕ) → h * e ≤ m → h * o ≤ (t + u) * (r + z) + (h * r + x + u * y) → e * x ≤ m * z
+linear_within : (t u h c e m o r z x y : ℕ) → h * e ≤ m → h * o ≤ (t + u) * (r + z) + (h * r + x + u * y) → e * x
+    ≤ m * z
     → c * y ≤ e * (r + z) → h * c * e * o ≤ (u * (c + e) * e + t * c * e + c * m) * (r + z)
 linear_within t u h c e m o r z x y one most paid little =
     let all : (c * e) * (h * o) ≤ (c * e) * ((t + u) * (r + z) + (h * r + x + u * y)) = mul-le-mul_left (c * e) most in
@@ -185,8 +188,8 @@ module _ (k : Fraction) (some_q : 1 ≤ k.q) (ratio : k.q ≤ k.p) where
   parts_by (Some f) c r z d e y most paid little =
       (factor_agrees k f c (r + z)).1 (factor_parts k f c r z (k.p * d + k.q * e) y most paid little)
 
-  -- what is so far above what is done as usual and taken, with what was displaced, that by first takes once more, and what
-  -- is above, stands within
+  -- what is so far above what is done as usual and taken, with what was displaced, that by first takes once more, and
+  -- what is above, stands within
   pub within_twice : (c r z d e y : ℕ)
       → k.q * c ≤ (k.p + k.q) * (r + z) + (k.q * r + (k.p * d + k.q * e) + k.q * y) → IsPaidTwice k d e z
       → IsExcess k y (r + z) → IsWithin k c (r + z)

@@ -1,7 +1,8 @@
 -- What a schedule gives in one tick to jobs that the run completes after a take or abandons: no more than the run gives
 -- in that tick, one for each job that was set aside by then and isn't due yet, and one for each job completed by then.
 use Rattle.std.proofs.Common.{◌≡◌, ℕ, ◌+◌, ◌≤◌, ◌<◌, ◌⊎◌, inl, inr, List, [], ◌∷◌, ◌++◌, length, refl, sym, ap}
-use Rattle.std.proofs.Common.{Bool, true, false, cond, eqb, arith, nat_le, nat_lt, ◌&&◌, ◌||◌, not, sum_by, le-leb, leb-true}
+use Rattle.std.proofs.Common.{Bool, true, false, cond, eqb, arith, nat_le, nat_lt, ◌&&◌, ◌||◌, not, sum_by, le-leb}
+use Rattle.std.proofs.Common.{leb-true}
 use Rattle.std.proofs.Common.{lt-ltb, ltb-true, eq-eqb}
 use Rattle.std.proofs.lemmas.Bool.{cases_lt, and_parts}
 use Rattle.std.proofs.lemmas.List.Sums.{sum_by-cons, sum_by-append}
@@ -84,7 +85,8 @@ passes_most p jobs once numbers all = omega (
 pub light_parts : (k : Fraction) (o : Over) (i : Interval) → is_light_in k o i ≡ true
     → (i.from ≤ o.at) × (o.at ≤ i.until) × (is_heavy k o.job.value (completed_in i) ≡ false)
 light_parts k o i e =
-    let outer = and_parts (nat_le i.from o.at && nat_le o.at i.until) (not (is_heavy k o.job.value (completed_in i))) e in
+    let outer = and_parts (nat_le i.from o.at && nat_le o.at i.until)
+    (not (is_heavy k o.job.value (completed_in i))) e in
     let inner = and_parts (nat_le i.from o.at) (nat_le o.at i.until) outer.0 in
     (leb-true _ _ inner.0, leb-true _ _ inner.1, not_true (is_heavy k o.job.value (completed_in i)) outer.1)
 
@@ -124,11 +126,13 @@ own_ends k τ i o gone = by_test (is_light_in k o i) refl (cases_lt τ i.until) 
 
 -- so many of its intervals have ended as processors give the tick to no job
 own_ended : (k : Fraction) (τ : ℕ) (intervals : List Interval) (o : Over) → o.at ≤ τ
-    → count_by (is_light_in k o) intervals ≤ sum_by (λ i. one (nat_le i.until τ && is_light_in k o i)) intervals + open_at
+    → count_by (is_light_in k o) intervals ≤ sum_by (λ i. one (nat_le i.until τ && is_light_in k o i)) intervals
+    + open_at
     intervals τ
 own_ended k τ intervals o gone = omega (
   arith,
-  sum_le (λ (i : Interval). one (is_light_in k o i)) (λ i. one (nat_le i.until τ && is_light_in k o i) + one (is_open τ i))
+  sum_le (λ (i : Interval). one (is_light_in k o i)) (λ i. one (nat_le i.until τ && is_light_in k o i)
+      + one (is_open τ i))
       intervals (λ i member. own_ends k τ i o gone),
   sum_plus (λ (i : Interval). one (nat_le i.until τ && is_light_in k o i)) (λ i. one (is_open τ i)) intervals,
 )
@@ -242,7 +246,8 @@ module _ (k : Fraction) (processors : ℕ) (intervals : List Interval) (taken go
     )
 
   -- where all that have it late are set aside
-  all_aside : (upto : Upto (λ (i : Interval). i.until) (λ (o : Over). o.job.deadline) (λ i o. is_light_in k o i) intervals gone aside.pairs τ)
+  all_aside : (upto : Upto (λ (i : Interval). i.until) (λ (o : Over). o.job.deadline) (λ i o. is_light_in k o i)
+      intervals gone aside.pairs τ)
       → sum_by (λ o. one (has_it_late o)) upto.waiting ≡ 0 → sum_by (λ o. one (has_it_late o)) gone ≤ aside_now
   all_aside upto none = omega (
     arith,
@@ -259,7 +264,8 @@ module _ (k : Fraction) (processors : ℕ) (intervals : List Interval) (taken go
     here true true false h = never (h refl)
 
   -- where one of them isn't, each of its intervals that has ended set aside another one
-  one_waits : (upto : Upto (λ (i : Interval). i.until) (λ (o : Over). o.job.deadline) (λ i o. is_light_in k o i) intervals gone aside.pairs τ)
+  one_waits : (upto : Upto (λ (i : Interval). i.until) (λ (o : Over). o.job.deadline) (λ i o. is_light_in k o i)
+      intervals gone aside.pairs τ)
       → (o : Over) → IsMember o upto.waiting → has_it_late o ≡ true
       → processors ≤ length (given_at ran τ) + aside_now
   one_waits upto o member e =
@@ -273,7 +279,8 @@ module _ (k : Fraction) (processors : ℕ) (intervals : List Interval) (taken go
         sum_le (λ (p : Interval × Over). one (nat_le p.0.until τ && nat_le o.job.deadline p.1.job.deadline))
             (λ p. one (still_aside τ p)) aside.pairs
             (λ p m. here (nat_le p.0.until τ) (nat_le o.job.deadline p.1.job.deadline) (nat_lt τ p.1.job.deadline)
-            (λ f. let low : o.job.deadline ≤ p.1.job.deadline = leb-true _ _ f in lt-ltb _ _ (omega (arith, low, it.1)))),
+            (λ f. let low : o.job.deadline
+            ≤ p.1.job.deadline = leb-true _ _ f in lt-ltb _ _ (omega (arith, low, it.1)))),
       ) where
         here : (a b c : Bool) → (b ≡ true → c ≡ true) → one (a && b) ≤ one (a && c)
         here false b c h = omega arith
@@ -284,7 +291,8 @@ module _ (k : Fraction) (processors : ℕ) (intervals : List Interval) (taken go
   -- the schedule gives the tick to no more of them
   pub tick_shared : all_have ≤ length (given_at ran τ) + (aside_now + early_now)
   tick_shared = by_busy (busy τ) where
-    by_upto : (upto : Upto (λ (i : Interval). i.until) (λ (o : Over). o.job.deadline) (λ i o. is_light_in k o i) intervals gone aside.pairs τ)
+    by_upto : (upto : Upto (λ (i : Interval). i.until) (λ (o : Over). o.job.deadline) (λ i o. is_light_in k o i)
+        intervals gone aside.pairs τ)
         → Each (λ o. o.job.release ≤ τ → τ < o.at → IsMember o.number (given_at ran τ)) (taken ++ gone)
         → (sum_by (λ o. one (has_it_late o)) upto.waiting ≡ 0)
         ⊎ ((o : Over) × IsMember o upto.waiting × (has_it_late o ≡ true))

@@ -1,5 +1,6 @@
 -- The sum over all ticks: what a schedule serves of the jobs that the run completes after a take or abandons. Without
--- those set aside, and with no more for the completed ones than they had, they ask for no more ticks than the run gives.
+-- those set aside, and with no more for the completed ones than they had, they ask for no more ticks than the run
+-- gives.
 use Rattle.std.proofs.Common.{◌≡◌, ℕ, ◌+◌, ◌≤◌, List, ◌++◌, length}
 use Rattle.std.proofs.Common.{true, arith, ◌&&◌, sum_by}
 use Rattle.std.specs.List.{count_by}
@@ -9,7 +10,8 @@ use Rattle.dover_model.proofs.lists.Members.{sum_le, sum_plus}
 use Rattle.dover_model.proofs.bound.Counting.{one, in_window}
 use Rattle.many_processors.specs.Schedules.{is_named, ticks_given, IsFor}
 use Rattle.many_processors.specs.Books.{Interval, Over, open_at, given_at, IsBusyIn, is_light_in}
-use Rattle.many_processors.proofs.bound.Ticks.{total, total_le, total_plus, total_sum, range_count, given_share, ran_most}
+use Rattle.many_processors.proofs.bound.Ticks.{total, total_le, total_plus, total_sum, range_count, given_share}
+use Rattle.many_processors.proofs.bound.Ticks.{ran_most}
 use Rattle.many_processors.proofs.bound.Sharing.{NamesOnce, SetAside, light_parts, still_aside, over_early, tick_shared}
 
 module _ (k : Fraction) (processors : ℕ) (intervals : List Interval) (taken gone : List Over) (ran : List (List ℕ))

@@ -1,5 +1,5 @@
 -- Small runs, by computation: on one processor they are those of the machine on one processor.
-use Rattle.std.proofs.Common.{◌≡◌, List, [], ◌∷◌, refl}
+use Rattle.std.proofs.Common.{◌≡◌, ◌+◌, List, [], ◌∷◌, refl}
 use Rattle.dover_model.specs.declared.events.Version.{Version}
 use Rattle.dover_model.specs.declared.events.Version.TheVariants.{Three, Four}
 use Rattle.dover_model.specs.declared.events.Event.TheVariants.{Release, Run, Preempt, Take, Complete, Abandon, End}
@@ -10,7 +10,7 @@ use Rattle.dover_model.specs.JobFacts.{JobFacts}
 use Rattle.dover_model.specs.Instance.{Instance}
 use Rattle.dover_model.specs.Run as single
 use Rattle.dover_model.proofs.rows.Written.{job}
-use Rattle.many_processors.specs.Run.{printed, printed_on, ran}
+use Rattle.many_processors.specs.Run.{printed, printed_on, ran, completed_value}
 
 -- jobs under a ratio, with finishes
 abbrev pub under : Version → Fraction → List Finish → List JobFacts → Instance
@@ -144,3 +144,32 @@ tie_by_number : printed_on 2 (under Four (fraction 2 1) [] (job 0 4 9 8 ∷ job 
     ∷ (0, Release 2 (job 1 1 4 1)) ∷ (0, Preempt 1 0 2) ∷ (0, Complete 2 2) ∷ (0, Run 2 0) ∷ (1, Complete 4 1)
     ∷ (0, Complete 5 0) ∷ (0, End 13) ∷ []
 tie_by_number = refl
+
+-- ---- what isn't true on several processors
+
+-- three jobs that two processors could serve: of their 8 the run completes 4
+loses_where_all_fit : completed_value 2 (under Four (with_factor (fraction 1 1) 2 1) []
+    (job 2 2 6 2 ∷ job 2 2 4 2 ∷ job 2 4 6 4 ∷ [])) ≡ 4
+loses_where_all_fit = refl
+
+-- jobs of which two processors complete more than three
+abbrev six_jobs : Instance
+six_jobs = under Four (with_factor (fraction 4 1) 2 1) []
+    (job 0 2 5 8 ∷ job 1 4 7 12 ∷ job 2 4 6 12 ∷ job 2 4 6 8 ∷ job 3 2 6 2 ∷ job 4 4 9 16 ∷ [])
+
+two_complete : completed_value 2 six_jobs ≡ 48
+two_complete = refl
+
+three_complete : completed_value 3 six_jobs ≡ 42
+three_complete = refl
+
+-- jobs of which a pool of two completes less than two feeds of one processor each
+abbrev under_four : List JobFacts → Instance
+under_four jobs = under Four (with_factor (fraction 4 1) 2 1) [] jobs
+
+as_one_pool : completed_value 2 (under_four (job 1 4 6 8 ∷ job 1 5 10 5 ∷ job 2 3 8 3 ∷ job 3 4 8 16 ∷ [])) ≡ 16
+as_one_pool = refl
+
+dealt_in_turn : single.completed_value (under_four (job 1 4 6 8 ∷ job 2 3 8 3 ∷ []))
+    + single.completed_value (under_four (job 1 5 10 5 ∷ job 3 4 8 16 ∷ [])) ≡ 32
+dealt_in_turn = refl

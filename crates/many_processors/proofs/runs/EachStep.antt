@@ -6,7 +6,8 @@ use Rattle.dover_model.specs.declared.events.Event.TheVariants.{Run, Preempt, Ta
 use Rattle.dover_model.specs.declared.events.Task.{Task}
 use Rattle.dover_model.specs.declared.events.Role.TheVariants.{Fresh, Waiting, Held, Running}
 use Rattle.dover_model.specs.Fraction.{Fraction}
-use Rattle.dover_model.specs.Common.{Rules, Instance, IsValid, View, is_privileged, is_ready_behind, IsMember, Each, NoneRuns, is_complete, is_over}
+use Rattle.dover_model.specs.Common.{Rules, Instance, IsValid, View, is_privileged, is_ready_behind, IsMember, Each}
+use Rattle.dover_model.specs.Common.{NoneRuns, is_complete, is_over}
 use Rattle.dover_model.specs.Step as single
 use Rattle.dover_model.proofs.lists.Tests.{never}
 use Rattle.dover_model.proofs.lists.Members.{map_member}
@@ -98,7 +99,8 @@ no_completion k q going n (Rests ro settles stale ahead quiet) = refl
 pub open_goes_on : {rules : Rules} {s : State} {all : List Seen} (m : Move) → StepCase false rules s all m
     → is_end m ≡ false
 open_goes_on m (cases.Completed q member t runs finished) = refl
-open_goes_on m (cases.Acted q member n acts going decided) = ap is_end acts.is ∙ acts_go_on q.processor acts.move acts.goes_on
+open_goes_on m (cases.Acted q member n acts going decided) = ap is_end acts.is
+    ∙ acts_go_on q.processor acts.move acts.goes_on
 open_goes_on m (cases.Abandoned q member n acts it going light) = ap is_end it.is
 open_goes_on m (cases.Ended may over) = never may
 open_goes_on m (cases.Rested quiet unended) = refl

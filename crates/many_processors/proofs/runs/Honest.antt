@@ -14,7 +14,8 @@ use Rattle.dover_model.specs.declared.events.Role.TheVariants.{Coming, Waiting, 
 use Rattle.dover_model.specs.JobFacts.{JobFacts}
 use Rattle.dover_model.specs.Finishes.{Finish, is_due}
 use Rattle.dover_model.specs.Common.{Instance, IsValid, is_running, is_privileged, is_done, is_over, left, with_role}
-use Rattle.dover_model.specs.Common.{IsMember, Each, IsNumberedFrom, jobs_of, numbered, observing, value_sum, is_complete, to_come}
+use Rattle.dover_model.specs.Common.{IsMember, Each, IsNumberedFrom, jobs_of, numbered, observing, value_sum}
+use Rattle.dover_model.specs.Common.{is_complete, to_come}
 use Rattle.dover_model.specs.Step as single
 use Rattle.dover_model.proofs.lists.Tests.{never}
 use Rattle.dover_model.proofs.lists.Members.{on_map, member_filter, all_each, map_same, sum_same, sum_filter, each_cons}
@@ -22,7 +23,8 @@ use Rattle.dover_model.proofs.runs.Honest.{sum_observing}
 use Rattle.dover_model.proofs.steps.Kept.{come_coming}
 use Rattle.dover_model.proofs.steps.Roles.{passes, is_running_role, is_over_role, is_done_role}
 use Rattle.many_processors.specs.State.{Placed, State, tasks_of, seen_by, opening, unplaced}
-use Rattle.many_processors.specs.Step.{Move, Prints, Waits, Ticks, on, Seen, all_seen, step, after, placed_after, in_role}
+use Rattle.many_processors.specs.Step.{Move, Prints, Waits, Ticks, on, Seen, all_seen, step, after, placed_after}
+use Rattle.many_processors.specs.Step.{in_role}
 use Rattle.many_processors.specs.Step.{ticked, with_tick}
 use Rattle.many_processors.specs.Run as many
 use Rattle.many_processors.specs.Run.{run, ran, tick_of, enough, completed_value, numbers_running}
@@ -31,7 +33,8 @@ use Rattle.many_processors.specs.Sound.{Keeps}
 use Rattle.many_processors.specs.Ticks.{AreDifferent}
 use Rattle.many_processors.specs.Observed.{observed, end_state}
 use Rattle.many_processors.specs.Books.{given_at}
-use Rattle.many_processors.proofs.bound.Ticks.{given_front, given_last, given_behind, length_last, given_hit, given_miss, given_nil}
+use Rattle.many_processors.proofs.bound.Ticks.{given_front, given_last, given_behind, length_last, given_hit}
+use Rattle.many_processors.proofs.bound.Ticks.{given_miss, given_nil}
 use Rattle.many_processors.proofs.books.TickSteps.{running_member}
 use Rattle.many_processors.proofs.steps.Seeing.{each_sees}
 use Rattle.many_processors.proofs.steps.Beside.{numbers_stay}
@@ -288,7 +291,8 @@ module _ (processors : ℕ) (some : 1 ≤ processors) (J : Instance) (valid : Is
       let i = which processors J valid some J.rules s keeps q member in
       let x = running_job processors J valid some J.rules s keeps q.processor t
       (subst (λ (r : Seen). r.view.running ≡ Some t) i.0 runs) in
-      subst (λ (u : Task). Gave J.rules.finishes past (after s (Prints q.processor (Complete q.view.clock u.number)))) x.2
+      subst (λ (u : Task). Gave J.rules.finishes past
+      (after s (Prints q.processor (Complete q.view.clock u.number)))) x.2
       (completes q.processor q.view.clock x.0 x.1 (ap (is_finished J.rules.finishes) x.2 ∙ finished))
   by_case m (cases.Acted q member n acts going decided) =
       subst (λ (x : Move). Gave J.rules.finishes (ran_after past s x) (after s x)) (sym acts.is)
@@ -344,35 +348,40 @@ module _ (processors : ℕ) (J : Instance) (valid : IsValid J) (some : 1 ≤ pro
       let p = of_tasks at_end.last.jobs t.0 t.1 in
       let gave : JobGave at_end.ran t.0 = subst (JobGave at_end.ran) p.2 (at_end.holds.each p.0 p.1) in
       let it = gave.window τ (ap (λ m. is_named m (given_at at_end.ran τ)) t.2
-      ∙ ap (λ r. is_named n (given_at r τ)) at_end.given ∙ named) in
-      (omega (arith, it.0, ap (λ (i : JobFacts). i.release) t.3), omega (arith, it.1, ap (λ (i : JobFacts). i.deadline) t.3))
+      ∙ ap (λ r. is_named n (given_at r τ)) at_end.given ∙ named) in (
+        omega (arith, it.0, ap (λ (i : JobFacts). i.release) t.3),
+        omega
+            (arith, it.1, ap (λ (i : JobFacts). i.deadline) t.3),
+      )
 
   -- each job that is done is served what it had, and no gone one is
   earned_done : (t : Task) → IsMember t (tasks_of at_end.last.jobs)
       → earned (ran processors J) (t.number, observing t) ≡ cond (is_done t) t.job.value 0
-  earned_done t member = by_role (is_over_role t (all_each is_over (tasks_of at_end.last.jobs) at_end.over t member)) where
-    p : (u : Placed) × IsMember u at_end.last.jobs × (u.task ≡ t)
-    p = of_tasks at_end.last.jobs t member
+  earned_done t member = by_role
+      (is_over_role t (all_each is_over (tasks_of at_end.last.jobs) at_end.over t member)) where
+        p : (u : Placed) × IsMember u at_end.last.jobs × (u.task ≡ t)
+        p = of_tasks at_end.last.jobs t member
 
-    had : ticks_given (ran processors J) t.number t.job ≡ t.had
-    had = ap (λ r. ticks_given r t.number t.job) (sym at_end.given)
-        ∙ (subst (JobGave at_end.ran) p.2 (at_end.holds.each p.0 p.1)).had
+        had : ticks_given (ran processors J) t.number t.job ≡ t.had
+        had = ap (λ r. ticks_given r t.number t.job) (sym at_end.given)
+            ∙ (subst (JobGave at_end.ran) p.2 (at_end.holds.each p.0 p.1)).had
 
-    by_role : (t.role ≡ Done) ⊎ (t.role ≡ Gone)
-        → cond (nat_le (cond (is_done t) t.had t.job.work) (ticks_given (ran processors J) t.number t.job)) t.job.value 0
-        ≡ cond (is_done t) t.job.value 0
-    by_role (inl e) = ap (λ b. cond b t.job.value 0)
-        (le-leb (cond (is_done t) t.had t.job.work) (ticks_given (ran processors J) t.number t.job)
-        (omega (arith, had, ap (λ b. cond b t.had t.job.work) (passes is_done t Done true e refl)))
-        ∙ sym (passes is_done t Done true e refl))
-    by_role (inr e) =
-        let gone : p.0.task.role ≡ Gone = ap (λ (u : Task). u.role) p.2 ∙ e in
-        let fits = fits_in processors J at_end.last at_end.keeps Gone p.0 p.1 gone in
-        let less : t.had < t.job.work = subst (λ (u : Task). u.had < u.job.work) p.2 (omega (arith, fits.0)) in
-        ap (λ b. cond b t.job.value 0)
-        (lt-leb (cond (is_done t) t.had t.job.work) (ticks_given (ran processors J) t.number t.job)
-        (omega (arith, had, less, ap (λ b. cond b t.had t.job.work) (passes is_done t Gone false e refl)))
-        ∙ sym (passes is_done t Gone false e refl))
+        by_role : (t.role ≡ Done) ⊎ (t.role ≡ Gone)
+            → cond (nat_le (cond (is_done t) t.had t.job.work) (ticks_given (ran processors J) t.number t.job))
+            t.job.value 0
+            ≡ cond (is_done t) t.job.value 0
+        by_role (inl e) = ap (λ b. cond b t.job.value 0)
+            (le-leb (cond (is_done t) t.had t.job.work) (ticks_given (ran processors J) t.number t.job)
+            (omega (arith, had, ap (λ b. cond b t.had t.job.work) (passes is_done t Done true e refl)))
+            ∙ sym (passes is_done t Done true e refl))
+        by_role (inr e) =
+            let gone : p.0.task.role ≡ Gone = ap (λ (u : Task). u.role) p.2 ∙ e in
+            let fits = fits_in processors J at_end.last at_end.keeps Gone p.0 p.1 gone in
+            let less : t.had < t.job.work = subst (λ (u : Task). u.had < u.job.work) p.2 (omega (arith, fits.0)) in
+            ap (λ b. cond b t.job.value 0)
+            (lt-leb (cond (is_done t) t.had t.job.work) (ticks_given (ran processors J) t.number t.job)
+            (omega (arith, had, less, ap (λ b. cond b t.had t.job.work) (passes is_done t Gone false e refl)))
+            ∙ sym (passes is_done t Gone false e refl))
 
   -- what the run's own schedule is worth, by the jobs as the run observed them, is what the run completes
   pub honest : worth (numbered (observed processors J)) (ran processors J) ≡ completed_value processors J

@@ -6,10 +6,9 @@ use Rattle.std.specs.List.{list_any, list_all}
 use Rattle.dover_model.specs.declared.events.Event.TheVariants.{Run, Preempt, Take, Complete, Abandon, End, Release}
 use Rattle.dover_model.specs.Run.{value_of_end}
 use Rattle.dover_model.specs.Common.{Rules, Instance, IsValid, is_done, is_over, value_sum}
-use Rattle.dover_model.specs.Step as single
 use Rattle.dover_model.proofs.lists.Tests.{never}
 use Rattle.many_processors.specs.State.{State, tasks_of}
-use Rattle.many_processors.specs.Step.{Move, Prints, Waits, Ticks, on, Seen, all_seen, after, step}
+use Rattle.many_processors.specs.Step.{Move, Prints, Waits, Ticks, Seen, all_seen, after, step}
 use Rattle.many_processors.specs.Run as many
 use Rattle.many_processors.specs.Run.{run_from, is_end, event_of, HasEnd, tick_of, numbers_running}
 use Rattle.many_processors.specs.Sound.{Keeps}

@@ -91,7 +91,8 @@ module _ (processors : ℕ) (J : Instance) (valid : IsValid J) (s : State) (keep
   running_few = omega (
     arith,
     running_count s.jobs,
-    sum_le (λ p. one (is_running p.task)) (λ p. sum_by (λ j. one (serves j p)) (numbers_from 0 processors)) s.jobs runs_on_one,
+    sum_le (λ p. one (is_running p.task)) (λ p. sum_by (λ j. one (serves j p)) (numbers_from 0 processors)) s.jobs
+        runs_on_one,
     sum_swap (λ (p : Placed) j. one (serves j p)) s.jobs (numbers_from 0 processors),
     sum_le (λ j. sum_by (λ p. one (serves j p)) s.jobs) (λ (j : ℕ). 1) (numbers_from 0 processors)
         (λ j member. one_here j),
@@ -122,7 +123,8 @@ module _ (processors : ℕ) (J : Instance) (valid : IsValid J) (some : 1 ≤ pro
       (by_end (is_end (step processors J.rules s)) (all_few more (after s (step processors J.rules s))
       (step_kept processors J valid some J.rules s keeps))) where
         by_end : (b : Bool)
-            → IsFor processors (filter_map tick_of (run_from processors J.rules more (after s (step processors J.rules s))))
+            → IsFor processors (filter_map tick_of
+            (run_from processors J.rules more (after s (step processors J.rules s))))
             → IsFor processors (filter_map tick_of (elim b [
               | true ↦ []
               | false ↦ run_from processors J.rules more (after s (step processors J.rules s))

@@ -29,20 +29,23 @@ use Rattle.dover_model.proofs.valid.Dues.{dues_most}
 use Rattle.dover_model.proofs.valid.JobLimits.{job_limits}
 use Rattle.many_processors.specs.Step.{open_step, is_free}
 use Rattle.many_processors.specs.State.{Placed, State, tasks_of, seen_by, seen_from, opening, unplaced}
-use Rattle.many_processors.specs.Step.{Move, Prints, Waits, Ticks, on, Seen, seen, all_seen, is_own_of, numbers_from, after}
+use Rattle.many_processors.specs.Step.{Move, Prints, Waits, Ticks, on, Seen, seen, all_seen, is_own_of, numbers_from}
+use Rattle.many_processors.specs.Step.{after}
 use Rattle.many_processors.specs.Step.{step, completion}
 use Rattle.many_processors.specs.Run as many
 use Rattle.many_processors.specs.Run.{run_from, run, enough, is_end, event_of, printed, HasEnd}
 use Rattle.many_processors.specs.Sound.{Keeps}
 use Rattle.many_processors.proofs.steps.Seeing.{each_sees, below_numbers}
 use Rattle.many_processors.proofs.steps.Cases as cases
-use Rattle.many_processors.proofs.steps.Cases.{StepCase, step_case, open_case, IsQuiet, then_none, is_finished, is_run, is_take, NoneDue}
+use Rattle.many_processors.proofs.steps.Cases.{StepCase, step_case, open_case, IsQuiet, then_none, is_finished, is_run}
+use Rattle.many_processors.proofs.steps.Cases.{is_take, NoneDue}
 use Rattle.many_processors.proofs.books.Booked.{own_sum, value_of}
 use Rattle.many_processors.proofs.steps.Placing.{seen_member, seen_own, own_seen, off_seen, all_left, own_running}
 use Rattle.many_processors.proofs.steps.Stepping.{real, same_job}
 use Rattle.many_processors.proofs.steps.Turns.{which, running_job, all_quiet, of_tasks, step_kept, opening_kept}
 use Rattle.many_processors.proofs.runs.EachStep.{no_completion, tick_quiet, open_goes_on}
-use Rattle.many_processors.proofs.runs.Weighing.{weighs, weighs_one, Lasting, Falls, goes_on, fits_in, on_slack, run_falls}
+use Rattle.many_processors.proofs.runs.Weighing.{weighs, weighs_one, Lasting, Falls, goes_on, fits_in, on_slack}
+use Rattle.many_processors.proofs.runs.Weighing.{run_falls}
 use Rattle.many_processors.proofs.runs.Weighing.{off_falls, done_falls, preempt_falls, take_falls, ticks_last}
 
 module _ (processors : ℕ) (J : Instance) (valid : IsValid J) (some : 1 ≤ processors) (s : State)
@@ -139,7 +142,8 @@ module _ (processors : ℕ) (J : Instance) (valid : IsValid J) (some : 1 ≤ pro
         (passes is_privileged z.0.task Waiting false is_w refl) (λ e. absurd (let f : Gone ≡ Running = e in cc))
         (λ e. never e) (omega (arith, weight_of steps_scale s.clock w z.0.task Waiting is_w))))
 
-    gone_down : (m : single.Move) → Deed J.rules.ratio (seen_from i s) (single.Prints (End 0)) m → cases.is_gone m ≡ true
+    gone_down : (m : single.Move) → Deed J.rules.ratio (seen_from i s) (single.Prints (End 0)) m → cases.is_gone m
+        ≡ true
         → Down (after s (on i m))
     gone_down m (Abandoned r x member runs_r some_r x_member waits now stale light) kind = leaves x x_member waits
     gone_down m (Completed r member runs_r) kind = never kind
@@ -159,7 +163,8 @@ module _ (processors : ℕ) (J : Instance) (valid : IsValid J) (some : 1 ≤ pro
     deed_down m (Resumed p member held none least why) kind ends decided = runs Held (λ e. cc) (inl refl)
         (λ x x_member e. behind_goes x x_member (fits_in processors J s keeps Held x x_member e).0
         (passes is_ready_behind x.task Held true e refl)) p member held
-    deed_down m (Started o member waits none first fits next) kind ends decided = runs Waiting (λ e. cc) (inr (inl refl))
+    deed_down m (Started o member waits none first fits next) kind ends decided = runs Waiting (λ e. cc)
+        (inr (inl refl))
         (λ x x_member e. behind_goes x x_member (fits_in processors J s keeps Waiting x x_member e).0
         (passes is_ready_behind x.task Waiting true e refl)) o member waits
     deed_down m (Began f member fresh none free) kind ends decided = runs Fresh (λ e. cc) (inr (inr refl)) fresh_goes
@@ -250,7 +255,8 @@ module _ (processors : ℕ) (J : Instance) (valid : IsValid J) (some : 1 ≤ pro
       → Each (λ o. completion o ≡ None) all → Decided i m → Down (after s m)
   acts_down i less m acts going decided = subst (λ (x : Move). Down (after s x)) (sym acts.is)
       (deed_down (left_of going) i less acts.move (deed_at i false m acts)
-      (no_completion J.rules.ratio (seen J.rules.version s i) (going (seen J.rules.version s i) (see i less)) acts.move acts.case)
+      (no_completion J.rules.ratio (seen J.rules.version s i) (going (seen J.rules.version s i) (see i less))
+      acts.move acts.case)
       acts.goes_on (subst (Decided i) acts.is decided))
 
   leaves_down : (i : ℕ) → i < processors → (m : Move) → cases.Acts J.rules.ratio (seen J.rules.version s i) true m
@@ -278,7 +284,8 @@ module _ (processors : ℕ) (J : Instance) (valid : IsValid J) (some : 1 ≤ pro
         → (is_take m ≡ false)
         ⊎ ((j : ℕ) → j < processors → own_sum q.processor value_of s.jobs ≤ own_sum j value_of s.jobs)
     by_least (inl is) = inl is
-    by_least (inr least) = inr (λ j less. omega (arith, (least (seen J.rules.version s j) (see j less)).1, here, seen_value j))
+    by_least (inr least) = inr
+        (λ j less. omega (arith, (least (seen J.rules.version s j) (see j less)).1, here, seen_value j))
 
   -- ---- a tick comes before the last deadline
 
@@ -309,7 +316,8 @@ module _ (processors : ℕ) (J : Instance) (valid : IsValid J) (some : 1 ≤ pro
 
     by_role : (role : Role) → x.0.task.role ≡ role → s.clock < last_deadline J.jobs
     by_role Coming e =
-        let member : IsMember x.0.task (map (seen_by 0) s.jobs) = off_member (passes is_privileged x.0.task Coming false e
+        let member : IsMember x.0.task (map (seen_by 0) s.jobs) = off_member
+        (passes is_privileged x.0.task Coming false e
         refl) in
         let ahead : s.clock < x.0.task.job.release = quiet.ahead x.0.task member e in
         let job : IsJob x.0.task.job = (real processors J valid s keeps 0).each x.0.task member in
@@ -342,7 +350,8 @@ module _ (processors : ℕ) (J : Instance) (valid : IsValid J) (some : 1 ≤ pro
   case_down may_end m (cases.Ended may over) early more = never (sym more)
   case_down may_end m (cases.Rested quiet unended) early more =
       let some_left = left_of quiet.going in
-      let first : Quiet (seen_from 0 s) = all_quiet processors J valid some J.rules s keeps quiet 0 (omega (arith, some)) in
+      let first : Quiet (seen_from 0 s) = all_quiet processors J valid some J.rules s keeps quiet 0
+      (omega (arith, some)) in
       let last = ticks_last processors J s keeps J.rules.finishes w it one_job some_left first in
       (0, last.0, omega (arith, last.1, early refl))
 
@@ -377,7 +386,8 @@ module _ (processors : ℕ) (J : Instance) (valid : IsValid J) (some : 1 ≤ pro
       | true ↦ []
       | false ↦ run_from processors J.rules 0 (after s (step processors J.rules s))
     ])) e
-    by_end false e = let d = step_down processors J valid some s keeps w it (last_deadline J.jobs) (omega arith) e in absurd (omega (arith, d.2, few))
+    by_end false e = let d = step_down processors J valid some s keeps w it (last_deadline J.jobs) (omega arith)
+        e in absurd (omega (arith, d.2, few))
   ends (suc more) s w keeps it few = by_end (is_end (step processors J.rules s)) refl
       (ends more (after s (step processors J.rules s))) where
         by_end : (b : Bool) → is_end (step processors J.rules s) ≡ b
@@ -407,7 +417,8 @@ module _ (processors : ℕ) (J : Instance) (valid : IsValid J) (some : 1 ≤ pro
       → shown (run_from processors J.rules more s) ≤ weighs s.clock w s.jobs + 1
   few_from zero s w keeps it = omega arith
   few_from (suc more) s w keeps it = by_move (step processors J.rules s) (is_end (step processors J.rules s)) refl
-      (step_down processors J valid some s keeps w it (last_deadline J.jobs) (omega arith)) (few_from more (after s (step processors J.rules s)))
+      (step_down processors J valid some s keeps w it (last_deadline J.jobs) (omega arith))
+      (few_from more (after s (step processors J.rules s)))
       (step_kept processors J valid some J.rules s keeps) where
         one_most : (o : Option Event) → length (cons_option o []) ≤ 1
         one_most None = omega arith
@@ -428,7 +439,7 @@ module _ (processors : ℕ) (J : Instance) (valid : IsValid J) (some : 1 ≤ pro
         by_move (Waits n) false e down rest kept = let d = down e in omega (arith, d.2, rest d.0 kept d.1)
         by_move Ticks false e down rest kept = let d = down e in omega (arith, d.2, rest d.0 kept d.1)
 
-  opening_lasts : Lasting J.rules.finishes processors (opening J.jobs) 0
+  pub opening_lasts : Lasting J.rules.finishes processors (opening J.jobs) 0
   opening_lasts = record {
     low = λ q less. omega arith;
     ready = on_map unplaced (λ p. is_ready_behind p.task ≡ true → is_due J.rules.finishes p.task ≡ false)
@@ -437,7 +448,7 @@ module _ (processors : ℕ) (J : Instance) (valid : IsValid J) (some : 1 ≤ pro
     going = inl refl;
   }
 
-  opening_weighs : weighs 0 0 (opening J.jobs).jobs ≡ 5 * length J.jobs
+  pub opening_weighs : weighs 0 0 (opening J.jobs).jobs ≡ 5 * length J.jobs
   opening_weighs = sum_map unplaced (weighs_one 0 0) (to_come 0 J.jobs)
       ∙ sum_each 5 (weight steps_scale 0 0) 0 J.jobs
       (λ t member. ap (λ role. weight_in steps_scale role 0 0 t) (come_coming 0 J.jobs t member).0)

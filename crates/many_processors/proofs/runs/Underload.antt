@@ -1,7 +1,9 @@
 -- Where no tick is in the windows of more jobs than there are processors, no job is lost.
-use Rattle.std.proofs.Common.{◌≡◌, ℕ, ◌+◌, ◌≤◌, ◌<◌, ◌⊎◌, inl, inr, List, map, refl, sym, ap, ◌∙◌, subst, Bool, true, false}
-use Rattle.std.proofs.Common.{cond, arith, eqb, eqb-true, eq-eqb, sum_by, nat_le, nat_lt, ◌&&◌, ◌==◌, le-leb, lt-ltb, None, []}
-use Rattle.std.specs.List.{count_by, list_all}
+use Rattle.std.proofs.Common.{◌≡◌, ℕ, ◌+◌, ◌≤◌, ◌<◌, ◌⊎◌, inl, inr, List, map, refl, sym, ap, ◌∙◌, subst, Bool, true}
+use Rattle.std.proofs.Common.{false}
+use Rattle.std.proofs.Common.{cond, arith, eqb, eqb-true, eq-eqb, sum_by, nat_le, nat_lt, ◌&&◌, ◌==◌, le-leb, lt-ltb}
+use Rattle.std.proofs.Common.{None, []}
+use Rattle.std.specs.List.{count_by}
 use Rattle.dover_model.specs.declared.events.Event.{Event}
 use Rattle.dover_model.specs.declared.events.Event.TheVariants.{Run, Preempt, Take, Complete, Abandon, End, Release}
 use Rattle.dover_model.specs.declared.events.Task.{Task}
@@ -12,7 +14,7 @@ use Rattle.dover_model.specs.State as one_state
 use Rattle.dover_model.specs.Underload as underload
 use Rattle.dover_model.specs.Underload.{abandons}
 use Rattle.dover_model.specs.Common.{Instance, IsValid, is_privileged, is_running, is_done, is_over, IsMember, Each}
-use Rattle.dover_model.specs.Common.{one_if, to_come, jobs_of, is_complete}
+use Rattle.dover_model.specs.Common.{one_if, to_come}
 use Rattle.dover_model.specs.Step as single
 use Rattle.dover_model.proofs.bound.Counting.{one}
 use Rattle.dover_model.proofs.lists.Tests.{never}
@@ -36,7 +38,7 @@ use Rattle.many_processors.proofs.steps.Kept.{job_released}
 use Rattle.many_processors.proofs.steps.Placing.{seen_member, seen_own, all_left}
 use Rattle.many_processors.proofs.steps.Stepping.{real, same_job, event_task, role_stays, gives_gone}
 use Rattle.many_processors.proofs.steps.Turns.{which, of_tasks, opening_kept}
-use Rattle.many_processors.proofs.runs.Outcomes.{ran_after, Outcome, outcome}
+use Rattle.many_processors.proofs.runs.Outcomes.{Outcome, outcome}
 use Rattle.many_processors.proofs.runs.RanFor.{count_all}
 use Rattle.many_processors.proofs.runs.RunEnds.{run_ends}
 use Rattle.many_processors.proofs.runs.Weighing.{fits_in, on_slack, number_count}
@@ -266,7 +268,8 @@ module _ (processors : ℕ) (J : Instance) (valid : IsValid J) (some : 1 ≤ pro
 
 -- ---- the run
 
-module _ (processors : ℕ) (J : Instance) (valid : IsValid J) (some : 1 ≤ processors) (few : FewAtOnce processors J) where
+module _ (processors : ℕ) (J : Instance) (valid : IsValid J) (some : 1
+    ≤ processors) (few : FewAtOnce processors J) where
   at_end : Outcome processors J (λ past s. Each (λ p. p.task.role ≡ Gone → ⊥) s.jobs) [] (run processors J)
   at_end = outcome processors some J valid (λ past s. Each (λ p. p.task.role ≡ Gone → ⊥) s.jobs)
       (λ past s keeps none. none_goes processors J valid some few s keeps (step processors J.rules s)

@@ -1,13 +1,15 @@
 -- What each job can still bring about, as a number that falls at each step but a silent tick.
 use Rattle.std.proofs.Common.{◌≡◌, ℕ, ◌+◌, ◌≤◌, ◌<◌, ◌⊎◌, inl, inr, List, map, refl, sym, ap, ◌∙◌, subst, Bool}
-use Rattle.std.proofs.Common.{true, false, cond, ◌||◌, ◌==◌, arith, eqb, nat_lt, sum_by, eq-eqb, eqb-true, lt-ltb, ltb-true}
+use Rattle.std.proofs.Common.{true, false, cond, ◌||◌, ◌==◌, arith, eqb, nat_lt, sum_by, eq-eqb, eqb-true, lt-ltb}
+use Rattle.std.proofs.Common.{ltb-true}
 use Rattle.std.proofs.lemmas.Bool.{and_parts, eqb-false}
 use Rattle.dover_model.specs.declared.events.Event.TheVariants.{Preempt, Take}
 use Rattle.dover_model.specs.declared.events.Task.{Task}
 use Rattle.dover_model.specs.declared.events.Role.{Role}
 use Rattle.dover_model.specs.declared.events.Role.TheVariants.{Coming, Fresh, Waiting, Held, Running, Done, Gone}
 use Rattle.dover_model.specs.Finishes.{Finish, is_due}
-use Rattle.dover_model.specs.Common.{Fraction, is_privileged, is_running, is_ready_behind, left, latest_start, with_role}
+use Rattle.dover_model.specs.Common.{Fraction, is_privileged, is_running, is_ready_behind, left, latest_start}
+use Rattle.dover_model.specs.Common.{with_role}
 use Rattle.dover_model.specs.Common.{IsMember, Each, FitsRole, Instance, IsHeavy}
 use Rattle.dover_model.specs.Common.{weight_in, weight, one_if}
 use Rattle.dover_model.specs.Step as single
@@ -37,8 +39,8 @@ weighs_one clock w p = weight steps_scale clock w p.task
 abbrev pub weighs : (clock w : ℕ) → List Placed → ℕ
 weighs clock w jobs = sum_by (weighs_one clock w) jobs
 
--- a take has to beat w on each processor, no job behind has come to a finish, and where w isn't zero no job that runs has
--- come to its end
+-- a take has to beat w on each processor, no job behind has come to a finish, and where w isn't zero no job that runs
+-- has come to its end
 pub record Lasting (finishes : List Finish) (processors : ℕ) (s : State) (w : ℕ) : Type 0 where
   pub low : (q : ℕ) → q < processors → w ≤ own_sum q value_of s.jobs
   pub ready : Each (λ p. is_ready_behind p.task ≡ true → is_due finishes p.task ≡ false) s.jobs
@@ -67,7 +69,8 @@ runs_less clock w t role (inr (inr e)) = subst (λ r. weight_in steps_scale Runn
     ≤ weight_in steps_scale r clock w t) (sym e) (omega (arith, one_most (nat_lt clock (latest_start t))))
 
 -- what isn't at its end
-pub goes_on : (finishes : List Finish) (t : Task) → 1 ≤ left t → is_due finishes t ≡ false → is_finished finishes t ≡ false
+pub goes_on : (finishes : List Finish) (t : Task) → 1 ≤ left t → is_due finishes t ≡ false → is_finished finishes t
+    ≡ false
 goes_on finishes t some none = ap (λ b. b || is_due finishes t) (some_left (left t) some) ∙ none where
   some_left : (n : ℕ) → 1 ≤ n → (n == 0) ≡ false
   some_left n some = by_test (n == 0) refl where
@@ -106,7 +109,8 @@ module _ (processors : ℕ) (J : Instance) (s : State) (keeps : Keeps processors
   )
 
   -- one job has the number
-  pub number_count : (x : Placed) → IsMember x s.jobs → sum_by (λ p. one_if (eqb p.task.number x.task.number)) s.jobs ≡ 1
+  pub number_count : (x : Placed) → IsMember x s.jobs
+      → sum_by (λ p. one_if (eqb p.task.number x.task.number)) s.jobs ≡ 1
   number_count x member = omega (
     arith,
     sum_at (λ p. one_if (eqb p.task.number x.task.number)) (λ p. 0) 0 s.jobs x (keeps.sound 0).numbered member
@@ -145,7 +149,8 @@ module _ (processors : ℕ) (J : Instance) (s : State) (keeps : Keeps processors
     pub grows : (h : Placed → Placed) (pressed : Bool) → Each (λ p. (h p).task.job ≡ p.task.job) s.jobs
         → ((q : ℕ) → Each (λ p. is_own_of q p ≡ true → is_own_of q (h p) ≡ true) s.jobs)
         → Each (λ p. is_ready_behind (h p).task ≡ true → is_due finishes (h p).task ≡ false) s.jobs
-        → Each (λ p. (h p).task.role ≡ Running → ((h p).task ≡ p.task) ⊎ (is_finished finishes (h p).task ≡ false)) s.jobs
+        → Each (λ p. (h p).task.role ≡ Running → ((h p).task ≡ p.task) ⊎ (is_finished finishes (h p).task ≡ false))
+        s.jobs
         → weighs s.clock w (map h s.jobs) + 1 ≤ weighs s.clock w s.jobs
         → Falls finishes processors s (record { clock = s.clock; jobs = map h s.jobs; pressed = pressed }) w
     grows h pressed same own ready going less = (
@@ -230,7 +235,8 @@ module _ (processors : ℕ) (J : Instance) (s : State) (keeps : Keeps processors
           (moved_parts (λ p. in_role p role) (λ p u. is_ready_behind u.task ≡ true → is_due finishes u.task ≡ false)
           ready (λ p m e. it.ready p m e))
           (moved_parts (λ p. in_role p role) (λ p u. u.task.role ≡ Running
-          → (u.task ≡ p.task) ⊎ (is_finished finishes u.task ≡ false)) (λ e. absurd (not_running e)) (λ p m e. inl refl))
+          → (u.task ≡ p.task) ⊎ (is_finished finishes u.task ≡ false)) (λ e. absurd (not_running e))
+          (λ p m e. inl refl))
           (one_falls (moved (λ p. in_role p role)) w x member (moved_other (λ p. in_role p role))
           (subst (λ u. weighs_one s.clock w u + 1 ≤ weighs_one s.clock w x) (sym (moved_x (λ p. in_role p role))) less))
 
@@ -255,7 +261,8 @@ module _ (processors : ℕ) (J : Instance) (s : State) (keeps : Keeps processors
             low = λ q q_low. omega (arith, none);
             ready = on_map (moved (λ p. in_role p Done))
                 (λ p. is_ready_behind p.task ≡ true → is_due finishes p.task ≡ false) s.jobs
-                (moved_parts (λ p. in_role p Done) (λ p u. is_ready_behind u.task ≡ true → is_due finishes u.task ≡ false)
+                (moved_parts (λ p. in_role p Done) (λ p u. is_ready_behind u.task ≡ true → is_due finishes u.task
+                ≡ false)
                 (λ e. never e) (λ p m e. it.ready p m e));
             going = inl none;
           },
@@ -506,7 +513,8 @@ module _ (processors : ℕ) (J : Instance) (s : State) (keeps : Keeps processors
 
       tick_ready : Each (λ p. is_ready_behind (ticked p).task ≡ true → is_due finishes (ticked p).task ≡ false) s.jobs
       tick_ready p member = by_test (is_running p.task) refl where
-        apart : (role : Role) → is_running (with_role p.task role) ≡ true → is_ready_behind (with_role p.task role) ≡ true
+        apart : (role : Role) → is_running (with_role p.task role) ≡ true → is_ready_behind (with_role p.task role)
+            ≡ true
             → ⊥
         apart Running e f = never f
         apart Coming e f = never e
@@ -534,7 +542,8 @@ module _ (processors : ℕ) (J : Instance) (s : State) (keeps : Keeps processors
           arith,
           sum_map ticked (weighs_one (s.clock + 1) 0) s.jobs,
           sum_le (λ p. weighs_one (s.clock + 1) 0 (ticked p)) (weighs_one s.clock w) s.jobs
-              (λ p member. subst (λ t. weight steps_scale (s.clock + 1) 0 t ≤ weighs_one s.clock w p) (sym (tick_task p))
+              (λ p member. subst (λ t. weight steps_scale (s.clock + 1) 0 t
+              ≤ weighs_one s.clock w p) (sym (tick_task p))
               (tick_weight finishes steps_scale (seen_from 0 s) (keeps.sound 0) quiet w 0 p.task p.task.role
               (role_fits p member) (early p member)
               (λ runs. some_left p member (passes is_privileged p.task Running true runs refl))

@@ -6,21 +6,25 @@ use Rattle.std.proofs.Common.{nat_lt, ltb-true, ltb-false}
 use Rattle.std.specs.List.{list_all}
 use Rattle.dover_model.specs.declared.events.Event.TheVariants.{Run, Preempt, Take, Complete, Abandon, End, Release}
 use Rattle.dover_model.specs.declared.events.Task.{Task}
-use Rattle.dover_model.specs.Common.{Rules, Fraction, Finish, IsMember, Each, IsHeavy, is_heavy, first, earlier, is_over, is_done}
+use Rattle.dover_model.specs.Common.{Rules, Fraction, Finish, IsMember, Each, IsHeavy, is_heavy, first, earlier}
+use Rattle.dover_model.specs.Common.{is_over, is_done}
 use Rattle.dover_model.specs.State.{value_sum}
-use Rattle.dover_model.specs.Common.{waiting_order, by_density, left, View, is_waiting, starts_before, is_at_latest_start}
+use Rattle.dover_model.specs.Common.{waiting_order, by_density, left, View, is_waiting, starts_before}
+use Rattle.dover_model.specs.Common.{is_at_latest_start}
 use Rattle.dover_model.specs.Finishes.{has_come_to, is_due}
 use Rattle.dover_model.specs.Step as single
 use Rattle.dover_model.proofs.lists.Tests.{never, none_is_some}
 use Rattle.dover_model.proofs.lists.Members.{some_same, found, not_found, member_filter, reduce_least, reduce_none}
 use Rattle.dover_model.proofs.lists.FirstOfTasks.{first_member}
-use Rattle.dover_model.proofs.steps.Cases.{Settles, Busy, Free, NoneArrives, Case, Resumes, Starts, Begins, Preempts, Stays}
+use Rattle.dover_model.proofs.steps.Cases.{Settles, Busy, Free, NoneArrives, Case, Resumes, Starts, Begins, Preempts}
+use Rattle.dover_model.proofs.steps.Cases.{Stays}
 use Rattle.dover_model.proofs.steps.Cases.{Arrives, Takes, Abandons}
 use Rattle.dover_model.proofs.bound.Calculus.{heavy_mono}
 use Rattle.many_processors.specs.State.{State, tasks_of}
 use Rattle.many_processors.specs.Step.{Move, Prints, Ticks, on, Seen, front, ◌or_else◌, ◌or_try◌, first_some}
 use Rattle.many_processors.specs.Step.{for_one, placed, is_none, is_free, free_one, completion_of, finish_on, finishing}
-use Rattle.many_processors.specs.Step.{completion, resumption_of, resumption, dispatch, deciding, decision, arrival, alarm}
+use Rattle.many_processors.specs.Step.{completion, resumption_of, resumption, dispatch, deciding, decision, arrival}
+use Rattle.many_processors.specs.Step.{alarm}
 use Rattle.many_processors.specs.Step.{least_valued, ending, urgent_or, is_preempted, runs_longer}
 use Rattle.many_processors.proofs.steps.Seeing.{Sees, whole}
 
@@ -111,8 +115,8 @@ abbrev pub is_ending : single.Move → Bool
 is_ending (single.Prints (End value)) = true
 is_ending _ = false
 
--- the case of one processor that a move is, an abandonment or not. (What is done where none applies is out of reach: the
--- end of a run.)
+-- the case of one processor that a move is, an abandonment or not. (What is done where none applies is out of reach:
+-- the end of a run.)
 pub record Acts (k : Fraction) (q : Seen) (gone : Bool) (m : Move) : Type 0 where
   pub move : single.Move
   pub is : m ≡ on q.processor move
@@ -160,7 +164,8 @@ none_finishes (f ∷ finishes) all none q member t runs =
       both = try_none (finishing all f) (first_some (finishing all) finishes) none
 
       here : finish_on f q (Some t) ≡ None
-      here = subst (λ o. finish_on f q o ≡ None) runs (unanswered (λ q. finish_on f q q.view.running) all both.0 q member)
+      here = subst (λ o. finish_on f q o
+          ≡ None) runs (unanswered (λ q. finish_on f q q.view.running) all both.0 q member)
 
 -- the move gives a processor to a job that waits or is held on it
 abbrev pub is_run : Move → Bool
@@ -334,7 +339,8 @@ module _ (k : Fraction) (q : Seen) where
     by_parts (Some r) (Some f) none = none_is_some (sym none)
 
   -- a job is released
-  arrival_acts : (m : Move) → Settles q.view q.view.running → q.view.fresh ≡ None → arrival q ≡ Some m → Acts k q false m
+  arrival_acts : (m : Move) → Settles q.view q.view.running → q.view.fresh ≡ None → arrival q ≡ Some m
+      → Acts k q false m
   arrival_acts m settles stale some = by_coming q.view.coming refl some where
     by_coming : (c : Option Task) → q.view.coming ≡ c → placed q (single.arrival q.view c) ≡ Some m → Acts k q false m
     by_coming None e some = none_is_some some
@@ -377,7 +383,8 @@ alarm_acts : (k : Fraction) (q : Seen) (m : Move) → Settles q.view q.view.runn
     → (Acts k q false m × IsSomeOne q.view.must_start) ⊎ (Acts k q true m × Goes k q m)
 alarm_acts k q m settles stale ahead some = by_parts q.view.running q.view.must_start settles refl some where
   by_parts : (ro x : Option Task) → Settles q.view ro → q.view.must_start ≡ x
-      → placed q (single.alarm k q.view ro x) ≡ Some m → (Acts k q false m × IsSomeOne q.view.must_start) ⊎ (Acts k q true m × Goes k q m)
+      → placed q (single.alarm k q.view ro x) ≡ Some m → (Acts k q false m × IsSomeOne q.view.must_start)
+      ⊎ (Acts k q true m × Goes k q m)
   by_parts ro None settles late some = none_is_some some
   by_parts None (Some x) settles late some = none_is_some some
   by_parts (Some r) (Some x) settles late some =
@@ -386,13 +393,16 @@ alarm_acts k q m settles stale ahead some = by_parts q.view.running q.view.must_
             → placed q (Some (single.Prints (cond b (Take q.view.clock r.number x.number)
             (Abandon q.view.clock x.number)))) ≡ Some m
             → (Acts k q false m × IsSomeOne q.view.must_start) ⊎ (Acts k q true m × Goes k q m)
-        by_value true heavy some = inl (record {
-          move = single.Prints (Take q.view.clock r.number x.number);
-          is = sym (some_same _ _ some);
-          kind = refl;
-          goes_on = refl;
-          case = Takes r x settles stale ahead late heavy;
-        }, (x, late))
+        by_value true heavy some = inl (
+          record {
+            move = single.Prints (Take q.view.clock r.number x.number);
+            is = sym (some_same _ _ some);
+            kind = refl;
+            goes_on = refl;
+            case = Takes r x settles stale ahead late heavy;
+          },
+          (x, late),
+        )
         by_value false light some = inr (
           record {
             move = single.Prints (Abandon q.view.clock x.number);
@@ -567,11 +577,14 @@ module _ (rules : Rules) (s : State) (all : List Seen) (sees : Each (Sees rules.
         by_alarm it.0 (least_is it.0 it.1).0 (alarm_none rules.ratio it.0 here)
 
   -- an answer of case 6
-  alarm_case : (may_end : Bool) (m : Move) → Each (λ q. completion q ≡ None) all → NoneDue rules all → Each (λ q. Settles q.view q.view.running) all → Each (λ q. q.view.fresh ≡ None) all
-      → Each (λ q. NoneArrives q.view q.view.coming) all → Each (λ q. is_free q ≡ true → q.view.first_waiting ≡ None) all
+  alarm_case : (may_end : Bool) (m : Move) → Each (λ q. completion q ≡ None) all → NoneDue rules all
+      → Each (λ q. Settles q.view q.view.running) all → Each (λ q. q.view.fresh ≡ None) all
+      → Each (λ q. NoneArrives q.view q.view.coming) all
+      → Each (λ q. is_free q ≡ true → q.view.first_waiting ≡ None) all
       → for_one (alarm rules.ratio) (least_valued all) ≡ Some m → StepCase may_end rules s all m
   alarm_case may_end m going calm settles stale ahead waits some =
-      by_kind (alarm_acts rules.ratio one.0 m (settles one.0 least.0) (stale one.0 least.0) (ahead one.0 least.0) one.2) where
+      by_kind (alarm_acts rules.ratio one.0 m (settles one.0 least.0) (stale one.0 least.0) (ahead one.0 least.0)
+      one.2) where
         one : (x : Seen) × (least_valued all ≡ Some x) × (alarm rules.ratio x ≡ Some m)
         one = for_some (alarm rules.ratio) (least_valued all) m some
 
@@ -593,7 +606,8 @@ module _ (rules : Rules) (s : State) (all : List Seen) (sees : Each (Sees rules.
               (sym (sees o o_member).first_waiting ∙ waits o o_member e))
               ∙ sym (sees one.0 least.0).must_start ∙ it.1)
 
-        by_kind : (Acts rules.ratio one.0 false m × IsSomeOne one.0.view.must_start) ⊎ (Acts rules.ratio one.0 true m × Goes rules.ratio one.0 m)
+        by_kind : (Acts rules.ratio one.0 false m × IsSomeOne one.0.view.must_start)
+            ⊎ (Acts rules.ratio one.0 true m × Goes rules.ratio one.0 m)
             → StepCase may_end rules s all m
         by_kind (inl it) = Acted one.0 least.0 m it.0 going
             (inr (calm, inr (λ o o_member. (none_free it.1 o o_member, least.1 o o_member))))
@@ -613,56 +627,61 @@ module _ (rules : Rules) (s : State) (all : List Seen) (sees : Each (Sees rules.
         → Each (λ q. q.view.fresh ≡ None) all → Each (λ q. NoneArrives q.view q.view.coming) all
         → (for_one (alarm rules.ratio) (least_valued all) ≡ None) × (other ≡ m)
         → StepCase may_end rules s all m
-    from_rest m going holding waits settles stale ahead it = subst (StepCase may_end rules s all) it.1 (at_rest (record {
-      going = going;
-      settles = settles;
-      holding = holding;
-      waiting = waits;
-      stale = stale;
-      ahead = ahead;
-      early = none_late waits it.0;
-    }))
+    from_rest m going holding waits settles stale ahead it = subst (StepCase may_end rules s all) it.1
+        (at_rest (record {
+          going = going;
+          settles = settles;
+          holding = holding;
+          waiting = waits;
+          stale = stale;
+          ahead = ahead;
+          early = none_late waits it.0;
+        }))
 
     from_fourth : (m : Move) → Each (λ q. completion q ≡ None) all → NoneDue rules all
         → Each (λ q. q.view.running ≡ None → q.view.first_held ≡ None) all
         → Each (λ q. is_free q ≡ true → q.view.first_waiting ≡ None) all → Each (λ q. Settles q.view q.view.running) all
         → (for_one decision (deciding all) or_else for_one arrival (front all)
         or_else for_one (alarm rules.ratio) (least_valued all) or_else other) ≡ m → StepCase may_end rules s all m
-    from_fourth m going calm holding waits settles is = by_fourth (or_split (for_one decision (deciding all)) _ m is) where
-      by_sixth : Each (λ q. q.view.fresh ≡ None) all → Each (λ q. NoneArrives q.view q.view.coming) all
-          → (for_one (alarm rules.ratio) (least_valued all) ≡ Some m)
-          ⊎ ((for_one (alarm rules.ratio) (least_valued all) ≡ None)
-          × (other ≡ m))
-          → StepCase may_end rules s all m
-      by_sixth stale ahead (inl some) = alarm_case may_end m going calm settles stale ahead waits some
-      by_sixth stale ahead (inr it) = from_rest m going holding waits settles stale ahead it
+    from_fourth m going calm holding waits settles is = by_fourth
+        (or_split (for_one decision (deciding all)) _ m is) where
+          by_sixth : Each (λ q. q.view.fresh ≡ None) all → Each (λ q. NoneArrives q.view q.view.coming) all
+              → (for_one (alarm rules.ratio) (least_valued all) ≡ Some m)
+              ⊎ ((for_one (alarm rules.ratio) (least_valued all) ≡ None)
+              × (other ≡ m))
+              → StepCase may_end rules s all m
+          by_sixth stale ahead (inl some) = alarm_case may_end m going calm settles stale ahead waits some
+          by_sixth stale ahead (inr it) = from_rest m going holding waits settles stale ahead it
 
-      by_fifth : Each (λ q. q.view.fresh ≡ None) all → (for_one arrival (front all) ≡ Some m)
-          ⊎ ((for_one arrival (front all) ≡ None)
-          × ((for_one (alarm rules.ratio) (least_valued all) or_else other) ≡ m))
-          → StepCase may_end rules s all m
-      by_fifth stale (inl some) = let one = for_some arrival (front all) m some in
-          let member : IsMember one.0 all = front_member all one.0 one.1 in
-          Acted one.0 member m (arrival_acts rules.ratio one.0 m (settles one.0 member) (stale one.0 member) one.2) going
-          (inr (calm, inl (arrival_takes one.0 m one.2)))
-      by_fifth stale (inr it) = by_sixth stale (none_arrives it.0)
-          (or_split (for_one (alarm rules.ratio) (least_valued all)) _ m it.1)
+          by_fifth : Each (λ q. q.view.fresh ≡ None) all → (for_one arrival (front all) ≡ Some m)
+              ⊎ ((for_one arrival (front all) ≡ None)
+              × ((for_one (alarm rules.ratio) (least_valued all) or_else other) ≡ m))
+              → StepCase may_end rules s all m
+          by_fifth stale (inl some) = let one = for_some arrival (front all) m some in
+              let member : IsMember one.0 all = front_member all one.0 one.1 in
+              Acted one.0 member m (arrival_acts rules.ratio one.0 m (settles one.0 member) (stale one.0 member) one.2)
+              going
+              (inr (calm, inl (arrival_takes one.0 m one.2)))
+          by_fifth stale (inr it) = by_sixth stale (none_arrives it.0)
+              (or_split (for_one (alarm rules.ratio) (least_valued all)) _ m it.1)
 
-      by_fourth : (for_one decision (deciding all) ≡ Some m)
-          ⊎ ((for_one decision (deciding all) ≡ None)
-          × ((for_one arrival (front all) or_else for_one (alarm rules.ratio) (least_valued all) or_else other) ≡ m))
-          → StepCase may_end rules s all m
-      by_fourth (inl some) = let one = for_some decision (deciding all) m some in
-          let member : IsMember one.0 all = deciding_member one.0 one.1 in
-          Acted one.0 member m (decision_acts rules.ratio one.0 m (settles one.0 member) one.2) going
-          (inr (calm, inl (decision_takes one.0 m one.2)))
-      by_fourth (inr it) = by_fifth (none_fresh it.0) (or_split (for_one arrival (front all)) _ m it.1)
+          by_fourth : (for_one decision (deciding all) ≡ Some m)
+              ⊎ ((for_one decision (deciding all) ≡ None)
+              × ((for_one arrival (front all) or_else for_one (alarm rules.ratio) (least_valued all)
+              or_else other) ≡ m))
+              → StepCase may_end rules s all m
+          by_fourth (inl some) = let one = for_some decision (deciding all) m some in
+              let member : IsMember one.0 all = deciding_member one.0 one.1 in
+              Acted one.0 member m (decision_acts rules.ratio one.0 m (settles one.0 member) one.2) going
+              (inr (calm, inl (decision_takes one.0 m one.2)))
+          by_fourth (inr it) = by_fifth (none_fresh it.0) (or_split (for_one arrival (front all)) _ m it.1)
 
     from_third : (m : Move) → Each (λ q. completion q ≡ None) all
         → Each (λ q. resumption q ≡ None) all
         → (for_one dispatch (free_one all) or_else first_some (finishing all) rules.finishes
         or_else for_one decision (deciding all)
-        or_else for_one arrival (front all) or_else for_one (alarm rules.ratio) (least_valued all) or_else other) ≡ m → StepCase may_end rules s all m
+        or_else for_one arrival (front all) or_else for_one (alarm rules.ratio) (least_valued all) or_else other)
+        ≡ m → StepCase may_end rules s all m
     from_third m going holding is = by_third (or_split (for_one dispatch (free_one all)) _ m is) where
       by_finish : Each (λ q. is_free q ≡ true → q.view.first_waiting ≡ None) all
           → (first_some (finishing all) rules.finishes ≡ Some m)
@@ -693,12 +712,15 @@ module _ (rules : Rules) (s : State) (all : List Seen) (sees : Each (Sees rules.
     from_second : (m : Move) → Each (λ q. completion q ≡ None) all
         → (first_some resumption all or_else for_one dispatch (free_one all)
         or_else first_some (finishing all) rules.finishes or_else for_one decision (deciding all)
-        or_else for_one arrival (front all) or_else for_one (alarm rules.ratio) (least_valued all) or_else other) ≡ m → StepCase may_end rules s all m
+        or_else for_one arrival (front all) or_else for_one (alarm rules.ratio) (least_valued all) or_else other)
+        ≡ m → StepCase may_end rules s all m
     from_second m going is = by_second (or_split (first_some resumption all) _ m is) where
       by_second : (first_some resumption all ≡ Some m)
           ⊎ ((first_some resumption all ≡ None)
-          × ((for_one dispatch (free_one all) or_else first_some (finishing all) rules.finishes or_else for_one decision (deciding all)
-          or_else for_one arrival (front all) or_else for_one (alarm rules.ratio) (least_valued all) or_else other) ≡ m))
+          × ((for_one dispatch (free_one all) or_else first_some (finishing all) rules.finishes
+          or_else for_one decision (deciding all)
+          or_else for_one arrival (front all) or_else for_one (alarm rules.ratio) (least_valued all) or_else other)
+          ≡ m))
           → StepCase may_end rules s all m
       by_second (inl some) = let one = answered resumption all m some in
           Acted one.0 one.1 m (resumption_acts rules.ratio one.0 m one.2) going
@@ -711,7 +733,8 @@ module _ (rules : Rules) (s : State) (all : List Seen) (sees : Each (Sees rules.
           ⊎ ((first_some completion all ≡ None)
           × ((first_some resumption all or_else for_one dispatch (free_one all)
           or_else first_some (finishing all) rules.finishes or_else for_one decision (deciding all)
-          or_else for_one arrival (front all) or_else for_one (alarm rules.ratio) (least_valued all) or_else other) ≡ m))
+          or_else for_one arrival (front all) or_else for_one (alarm rules.ratio) (least_valued all) or_else other)
+          ≡ m))
           → StepCase may_end rules s all m
       by_first (inl some) =
           let one = answered completion all m some in

@@ -50,7 +50,8 @@ module _ (processors : ℕ) (s : State) (placed : ArePlaced processors s) where
   }
 
   -- a job that gets processor i
-  pub gets_on : (h : Placed → Placed) (p : Placed) (i : ℕ) → i < processors → h p ≡ placed_on i p → Changed processors h p
+  pub gets_on : (h : Placed → Placed) (p : Placed) (i : ℕ) → i < processors → h p ≡ placed_on i p
+      → Changed processors h p
   gets_on h p i low same = record {
     number = ap (λ (x : Placed). x.task.number) same;
     job = ap (λ (x : Placed). x.task.job) same;
@@ -105,7 +106,8 @@ module _ (processors : ℕ) (s : State) (placed : ArePlaced processors s) where
             ∙ ap (λ c. cond c (in_role p Held) p) f)
 
   -- one that takes it
-  pub take_changed : (i : ℕ) → i < processors → (at r n : ℕ) → Each (Changed processors (placed_after i (Take at r n))) s.jobs
+  pub take_changed : (i : ℕ) → i < processors → (at r n : ℕ)
+      → Each (Changed processors (placed_after i (Take at r n))) s.jobs
   take_changed i low at r n p member =
       by_number (eqb p.task.number n) (is_own_of i p) refl refl where
         by_number : (b c : Bool) → eqb p.task.number n ≡ b → is_own_of i p ≡ c

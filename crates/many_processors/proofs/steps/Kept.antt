@@ -23,7 +23,8 @@ use Rattle.many_processors.proofs.steps.Beside.{Beside, Side, beside_sound}
 use Rattle.many_processors.proofs.steps.Placing.{seen_same, off_seen, own_seen, seen_is, seen_own}
 
 -- who has come is released
-pub released : (clock : ℕ) (role : Role) (t : Task) → FitsRole clock role t → (role ≡ Coming → ⊥) → t.job.release ≤ clock
+pub released : (clock : ℕ) (role : Role) (t : Task) → FitsRole clock role t → (role ≡ Coming → ⊥) → t.job.release
+    ≤ clock
 released clock Coming t fits came = absurd (came refl)
 released clock Fresh t fits came = fits.2
 released clock Waiting t fits came = fits.1
@@ -57,7 +58,8 @@ module _ (s : State) (sound : (q : ℕ) → IsSound (seen_from q s)) where
 
   -- a job that has come is seen as one that has
   pub seen_came : (q : ℕ) (p : Placed) → (p.task.role ≡ Coming → ⊥) → (seen_by q p).role ≡ Coming → ⊥
-  seen_came q p came e = came (sym (ap (λ (t : Task). t.role) (seen_is q p (λ d. let f : Coming ≡ Done = sym e ∙ d in cc)))
+  seen_came q p came e = came
+      (sym (ap (λ (t : Task). t.role) (seen_is q p (λ d. let f : Coming ≡ Done = sym e ∙ d in cc)))
       ∙ e)
 
   -- it is released
@@ -70,7 +72,8 @@ module _ (s : State) (sound : (q : ℕ) → IsSound (seen_from q s)) where
       )
 
   -- a job that has come, as over
-  pub goes_over : (q : ℕ) → Each (λ p. (p.task.role ≡ Coming → ⊥) → Beside s.clock (seen_by q p) (with_role p.task Done))
+  pub goes_over : (q : ℕ)
+      → Each (λ p. (p.task.role ≡ Coming → ⊥) → Beside s.clock (seen_by q p) (with_role p.task Done))
       s.jobs
   goes_over q p member came = record {
     number = sym (seen_same q p).0;
@@ -214,8 +217,10 @@ module _ (i : ℕ) where
 
   -- a change of jobs that is that of one processor
   pub same_after : (h : Placed → Placed) (e : Event) (jobs : List Placed)
-      → Each (λ p. seen_by i (h p) ≡ with_role (seen_by i p) (single.role_after e p.task.number (seen_by i p).role)) jobs
-      → map (seen_by i) (map h jobs) ≡ map (λ t. with_role t (single.role_after e t.number t.role)) (map (seen_by i) jobs)
+      → Each (λ p. seen_by i (h p) ≡ with_role (seen_by i p) (single.role_after e p.task.number (seen_by i p).role))
+      jobs
+      → map (seen_by i) (map h jobs)
+      ≡ map (λ t. with_role t (single.role_after e t.number t.role)) (map (seen_by i) jobs)
   same_after h e jobs same = map_map (seen_by i) h jobs
       ∙ map_same (λ p. seen_by i (h p))
       (λ p. with_role (seen_by i p) (single.role_after e (seen_by i p).number (seen_by i p).role)) jobs

@@ -123,7 +123,8 @@ module _ (s : State) (sound : (q : ℕ) → IsSound (seen_from q s)) where
     is_seen = own_seen p.owner p refl
 
     p_member : IsMember p.task (map (seen_by p.owner) s.jobs)
-    p_member = subst (λ t. IsMember t (map (seen_by p.owner) s.jobs)) is_seen (map_member (seen_by p.owner) s.jobs p member)
+    p_member = subst (λ t. IsMember t (map (seen_by p.owner) s.jobs)) is_seen
+        (map_member (seen_by p.owner) s.jobs p member)
 
     by_found : (o : Option Task) → running (seen_from p.owner s) ≡ o → running (seen_from p.owner s) ≡ Some p.task
     by_found None none = never (sym (not_found is_running (map (seen_by p.owner) s.jobs) none p.task p_member)

@@ -1,6 +1,6 @@
 -- Every step of a valid instance on some processors keeps what every state keeps.
 use Rattle.std.proofs.Common.{◌⊎◌, inl, inr, ◌≡◌, ℕ, ◌≤◌, ◌<◌, List, [], ◌∷◌, map, refl, sym, ap, ◌∙◌}
-use Rattle.std.proofs.Common.{subst, Bool, true, false, cond, ◌&&◌, ◌==◌}
+use Rattle.std.proofs.Common.{subst, Bool, true, false, cond}
 use Rattle.std.proofs.Common.{eqb, eqb-true}
 use Rattle.std.proofs.lemmas.Bool.{eqb-false}
 use Rattle.dover_model.specs.declared.events.Event.{Event}
@@ -18,7 +18,8 @@ use Rattle.dover_model.specs.Step as single
 use Rattle.dover_model.proofs.lists.Tests.{never}
 use Rattle.dover_model.proofs.lists.Members.{map_self}
 use Rattle.dover_model.proofs.steps.Roles.{passes}
-use Rattle.dover_model.proofs.steps.Deeds.{Realistic, Deed, Completed, Resumed, Started, Began, Preempted, Stayed, Arrived}
+use Rattle.dover_model.proofs.steps.Deeds.{Realistic, Deed, Completed, Resumed, Started, Began, Preempted, Stayed}
+use Rattle.dover_model.proofs.steps.Deeds.{Arrived}
 use Rattle.dover_model.proofs.steps.Deeds.{Taken, Abandoned, Rested, deed_of}
 use Rattle.dover_model.proofs.steps.Moves.{arrives}
 use Rattle.dover_model.proofs.steps.OneChange.{stays_sound}
@@ -36,7 +37,8 @@ use Rattle.many_processors.proofs.steps.Keeping.{take_changed, jobs_stay, Change
 
 -- a state is sound by its clock and its tasks
 pub sound_of : (s t : one.State) → s.clock ≡ t.clock → s.tasks ≡ t.tasks → IsSound s → IsSound t
-sound_of s t same_clock same_tasks it = subst (λ c. IsSound (record { clock = c; tasks = t.tasks; pressed = t.pressed }))
+sound_of s t same_clock same_tasks it = subst
+    (λ c. IsSound (record { clock = c; tasks = t.tasks; pressed = t.pressed }))
     same_clock (subst (λ ts. IsSound (record { clock = s.clock; tasks = ts; pressed = t.pressed })) same_tasks
     (record {
       numbered = it.numbered;
@@ -190,7 +192,8 @@ module _ (processors : ℕ) (J : Instance) (valid : IsValid J) (s : State) (keep
         waiting_fits : (p : Placed) → IsMember p s.jobs → p.task.role ≡ Waiting → FitsRole s.clock Waiting p.task
         waiting_fits p mp waits =
             subst (λ role. FitsRole s.clock role p.task) waits
-            (subst (λ t. FitsRole s.clock t.role t) (off_seen 0 p (passes is_privileged p.task Waiting false waits refl))
+            (subst (λ t. FitsRole s.clock t.role t)
+            (off_seen 0 p (passes is_privileged p.task Waiting false waits refl))
             (seen_fits s keeps.sound 0 p mp))
 
   -- a fresh job that waits
@@ -207,7 +210,8 @@ module _ (processors : ℕ) (J : Instance) (valid : IsValid J) (s : State) (keep
         (λ e. absurd (let f : Fresh ≡ Coming = sym p_fresh ∙ e in cc), refl, (fits.1, fits.2, fits.3))) q);
     jobs = jobs_stay (λ p. cond (eqb p.task.number x.task.number) (in_role p Waiting) p) s.jobs
         (λ p member. by_test p (eqb p.task.number x.task.number)) ∙ keeps.jobs;
-    placed = changed_placed processors s keeps.placed (λ p. cond (eqb p.task.number x.task.number) (in_role p Waiting) p)
+    placed = changed_placed processors s keeps.placed
+        (λ p. cond (eqb p.task.number x.task.number) (in_role p Waiting) p)
         s.clock _ (one_off processors s keeps.placed x.task.number Waiting (λ p. refl));
   } where
     by_test : (p : Placed) (b : Bool) → (cond b (in_role p Waiting) p).task.job ≡ p.task.job
@@ -349,7 +353,8 @@ module _ (processors : ℕ) (J : Instance) (valid : IsValid J) (s : State) (keep
       → t.role ≡ role → Each (λ p. p.task.number ≡ t.number → p.task.role ≡ Coming → ⊥) s.jobs
   came_one t member role other came e p mp same comes =
       let x = seen_member i s.jobs t role other e member in
-      let is_x : p ≡ x.0 = same_job processors J valid s keeps p x.0 mp x.1 (same ∙ sym (ap (λ (u : Task). u.number) x.2)) in
+      let is_x : p ≡ x.0 = same_job processors J valid s keeps p x.0 mp x.1 (same
+      ∙ sym (ap (λ (u : Task). u.number) x.2)) in
       came (sym e ∙ sym (ap (λ (u : Task). u.role) x.2) ∙ sym (ap (λ (y : Placed). y.task.role) is_x) ∙ comes)
 
   -- the running job that the processor sees is one of its own
@@ -381,7 +386,8 @@ module _ (processors : ℕ) (J : Instance) (valid : IsValid J) (s : State) (keep
       (here (single.Prints (Run s.clock f.number)) (Began f member fresh none free))
   deed_kept m (Preempted r f member runs some f_member fresh before fits) =
       let x = own_one r member runs in
-      subst (λ n. Keeps processors J (after s (Prints i (Preempt s.clock n f.number)))) (ap (λ (u : Task). u.number) x.2)
+      subst (λ n. Keeps processors J (after s (Prints i (Preempt s.clock n f.number))))
+      (ap (λ (u : Task). u.number) x.2)
       (preempts_kept processors J valid s keeps some_left i low x.0 x.1 (ap (λ (u : Task). u.role) x.2 ∙ runs) x.3
       s.clock f.number (came_one f f_member Fresh (λ e. cc) (λ e. cc) fresh)
       (subst (λ n. IsSound (single.after (seen_from i s) (single.Prints (Preempt s.clock n f.number))))
@@ -413,5 +419,6 @@ module _ (processors : ℕ) (J : Instance) (valid : IsValid J) (s : State) (keep
   pub acts_kept : (version : Version) (gone : Bool) (m : Move) → Acts k (seen version s i) gone m
       → Keeps processors J (after s m)
   acts_kept version gone m acts = subst (λ (x : Move). Keeps processors J (after s x)) (sym acts.is)
-      (deed_kept acts.move (deed_of k version (seen_from i s) no_move (keeps.sound i) (real processors J valid s keeps i)
+      (deed_kept acts.move
+      (deed_of k version (seen_from i s) no_move (keeps.sound i) (real processors J valid s keeps i)
       acts.move acts.case))

@@ -51,7 +51,8 @@ share_turns true false c m n h less = never (h refl)
 
 module _ {X : Type 0} (clock : ℕ) (f g : X → Task) (xs : List X) (turned : Each (λ x. Turned clock (f x) (g x)) xs)
     (sound : IsSound (state_at clock (map f xs)))
-    (some_runs : ((x : X) × IsMember x xs × ((g x).role ≡ Running)) ⊎ Each (λ x. is_privileged (f x) ≡ true → ⊥) xs) where
+    (some_runs : ((x : X) × IsMember x xs × ((g x).role ≡ Running))
+    ⊎ Each (λ x. is_privileged (f x) ≡ true → ⊥) xs) where
   -- a role is as before
   old_role : (x : X) → IsMember x xs → (role : Role) → (g x).role ≡ role → (f x).role ≡ role
   old_role x member role e = sym (turned x member).role ∙ e

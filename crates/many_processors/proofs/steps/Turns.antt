@@ -237,7 +237,8 @@ module _ (processors : ℕ) (J : Instance) (valid : IsValid J) (s : State) (keep
     below : (a b : ℕ) → (a < b) ⊎ (b ≤ a)
     below a zero = inr (omega arith)
     below zero (suc b) = inl (omega arith)
-    below (suc a) (suc b) = elim (below a b) [ inl less ↦ inl (omega (arith, less)) | inr low ↦ inr (omega (arith, low)) ]
+    below (suc a) (suc b) = elim (below a b)
+        [ inl less ↦ inl (omega (arith, less)) | inr low ↦ inr (omega (arith, low)) ]
 
     by_runs : ((r : Task) × IsMember r (map (seen_by q) s.jobs) × (r.role ≡ Running))
         ⊎ NoneRuns (map (seen_by q) s.jobs)
@@ -266,7 +267,8 @@ module _ (processors : ℕ) (J : Instance) (valid : IsValid J) (s : State) (keep
   -- a tick keeps what a state keeps
   pub ticks_kept : Keeps processors J (after s Ticks)
   ticks_kept = record {
-    sound = λ q. sound_of (one.state_at (s.clock + 1) (map (λ p. seen_by q (ticked p)) s.jobs)) (seen_from q (after s Ticks))
+    sound = λ q. sound_of (one.state_at (s.clock + 1) (map (λ p. seen_by q (ticked p)) s.jobs))
+        (seen_from q (after s Ticks))
         refl (sym (map_map (seen_by q) ticked s.jobs))
         (turned_sound s.clock (seen_by q) (λ p. seen_by q (ticked p)) s.jobs (turns q)
         (sound_of (seen_from q s) (one.state_at s.clock (map (seen_by q) s.jobs)) refl refl (keeps.sound q))
@@ -320,9 +322,11 @@ module _ (processors : ℕ) (J : Instance) (valid : IsValid J) (some : 1 ≤ pro
   -- each processor is quiet before a tick
   pub all_quiet : IsQuiet rules s all → (i : ℕ) → i < processors → Quiet (seen_from i s)
   all_quiet quiet i less =
-      let member : IsMember (seen rules.version s i) all = map_member (seen rules.version s) (numbers_from 0 processors) i
+      let member : IsMember (seen rules.version s i) all = map_member (seen rules.version s)
+      (numbers_from 0 processors) i
       (below_numbers i 0 processors (omega arith) (omega (arith, less))) in
-      quiet_of rules.ratio (seen_from i s) (deed_of rules.ratio rules.version (seen_from i s) single.Ticks (keeps.sound i)
+      quiet_of rules.ratio (seen_from i s)
+      (deed_of rules.ratio rules.version (seen_from i s) single.Ticks (keeps.sound i)
       (real processors J valid s keeps i) single.Ticks
       (Rests (running (seen_from i s)) (quiet.settles (seen rules.version s i) member)
       (quiet.stale (seen rules.version s i) member) (quiet.ahead (seen rules.version s i) member)

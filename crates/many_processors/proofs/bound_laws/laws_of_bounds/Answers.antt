@@ -7,9 +7,11 @@ pub returns-clause-over_books : goal.returns-clause-over_books
 returns-clause-over_books c k v w processors jobs ran s books few = many_bound k v w processors jobs ran books s few
 
 pub returns-clause-has_books : goal.returns-clause-has_books
-returns-clause-has_books c processors J j some valid least = run_books processors J some valid (run_ends processors J valid some) j
+returns-clause-has_books c processors J j some valid least = run_books processors J some valid
+    (run_ends processors J valid some) j
     least
 
 pub returns-clause-same_number : goal.returns-clause-same_number
-returns-clause-same_number c processors J s some valid few = run_bound processors J s some valid (run_ends processors J valid some)
+returns-clause-same_number c processors J s some valid few = run_bound processors J s some valid
+    (run_ends processors J valid some)
     few

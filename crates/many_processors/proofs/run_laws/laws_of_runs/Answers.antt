@@ -37,7 +37,8 @@ pub returns-clause-none_free : goal.returns-clause-none_free
 returns-clause-none_free c processors J some valid = each_step processors J valid some
     (λ x. x.move ≡ Ticks → Each (λ p. (p.task.role ≡ Fresh) ⊎ (p.task.role ≡ Waiting) → (q : ℕ) → q < processors
     → SomeRunsOn q x.before) x.before.jobs)
-    (λ s keeps ticks p member waits q low. busy_where_one_waits processors J valid some s keeps ticks q low p member waits)
+    (λ s keeps ticks p member waits q low. busy_where_one_waits processors J valid some s keeps ticks q low p member
+    waits)
 
 pub returns-clause-none_holds : goal.returns-clause-none_holds
 returns-clause-none_holds c processors J some valid = each_step processors J valid some
