@@ -1,5 +1,5 @@
 -- Marks in the lanes, step by step: where a job is held, where one is abandoned, and who takes the processor from whom.
-use Rattle.std.specs.Prelude.{ℕ, ◌-◌, ◌/◌, List, [], ◌∷◌, ◌++◌, Bool, ◌&&◌, nat_lt, if◌then◌else◌, codes, flat_map}
+use Rattle.std.specs.Prelude.{ℕ, ◌-◌, ◌/◌, min, List, [], ◌∷◌, ◌++◌, Bool, ◌&&◌, nat_lt, if◌then◌else◌, codes, flat_map}
 use Rattle.dover_model.specs.declared.events.Event.{Event}
 use Rattle.dover_model.specs.declared.events.Event.TheVariants.{Preempt, Take, Abandon}
 use Rattle.run_reports.specs.views.Templates.{Text, filled}
@@ -35,9 +35,10 @@ cross_from x y high = filled (codes "M@ @l6 @m0-@l-6 @") (x ∷ y ∷ high ∷ h
 abbrev pub cross : (x y high : ℕ) → Text
 cross x y high = cross_from (x - 3) (y - high / 2) high
 
--- the cross of a job that is abandoned at this tick, if the window has the tick and shows the job
+-- the cross of a job that is abandoned at this tick, if the window shows the job and has the tick, or at the deadline
+-- the one before it
 abbrev pub cross_in : Window → (unit at : ℕ) → Seen → Text
-cross_in w unit at lane = if has w at && shows w lane then cross (x_at w at) (middle unit lane) (unit / 2) else []
+cross_in w unit at lane = if has w (min at (lane.deadline - 1)) && shows w lane then cross (x_at w at) (middle unit lane) (unit / 2) else []
 
 -- the cross of a step
 abbrev pub cross_of : Window → (unit : ℕ) → List Seen → Event → Text

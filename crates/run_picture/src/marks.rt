@@ -111,7 +111,8 @@ fn put_cross_of(
     }
 }
 
-/// Appends the cross of a job that is abandoned at this tick, if the window has the tick and shows the job.
+/// Appends the cross of a job that is abandoned at this tick, if the window shows the job and has the tick, or at the
+/// deadline the one before it.
 fn put_cross_in(
     text: &mut Vec<u8>,
     window: Window,
@@ -122,7 +123,8 @@ fn put_cross_in(
     requires { unit ≤ 18 }
     ensures { OnOk result (text.new.items ≡ text.old.items ++ marks.cross_in window unit at lane.now) }
 {
-    if has(window, at) && shows(window, lane) {
+    let last = lane.deadline.saturating_sub(1);
+    if has(window, at.min(last)) && shows(window, lane) {
         let high = unit / 2;
         let left = x_at(window, at).saturating_sub(3);
         let top = middle(unit, lane).saturating_sub(high / 2);
