@@ -16,7 +16,7 @@ use Rattle.schedule_judge.specs.declared.causes.Cause.{Cause}
 use Rattle.schedule_judge.specs.declared.causes.Cause.TheVariants as cause
 use Rattle.schedule_judge.specs.declared.intake.Standing.{Standing}
 use Rattle.schedule_judge.specs.declared.intake.Standing.TheVariants.{Wrong, TooMany}
-use Rattle.schedule_judge.specs.Legal.{Schedule, runs, jobs_stopped, after, cause_of}
+use Rattle.schedule_judge.specs.Legal.{Schedule, blank, runs, jobs_stopped, after, cause_of}
 use Rattle.schedule_judge.specs.Account.{Account, no_lines, step_of_read, step_in, standing_so, is_too_many}
 use Rattle.schedule_judge.specs.Account.{with_step, read_step}
 use Rattle.schedule_judge.specs.Account.{counted, is_open, next_line, account_of_lines, account}
@@ -28,11 +28,11 @@ pub next_of : (ls : List (List ℕ)) (l : List ℕ) → account_of_lines (ls ++ 
 next_of ls l = fold-append next_line no_lines ls (l ∷ [])
 
 -- the account behind a line with this step, or none
-abbrev after_step : Account → Option Event → Account
+abbrev pub after_step : Account → Option Event → Account
 after_step a o = elim o [ None ↦ standing_so a (Wrong cause.Line) | Some e ↦ read_step a e ]
 
 -- the same by whether it is the first line, and then the header
-abbrev after_line : Account → (first header : Bool) → Option Event → Account
+abbrev pub after_line : Account → (first header : Bool) → Option Event → Account
 after_line a first header o = cond first (cond header a (standing_so a (Wrong cause.Header))) (after_step a o)
 
 -- the same by whether the text goes on, and has too many lines
@@ -217,3 +217,35 @@ few_fold (l ∷ ls) a few = few_fold ls (next_line a l) (few_next a l few)
 pub few_steps : (x : List ℕ) → length (account x).schedule.steps ≤ 4_000_000
 few_steps x = let few = few_fold (lines_of x) no_lines (record { steps = omega arith; lines = omega arith }) in
     let steps = few.steps in let lines = few.lines in omega (arith, steps, lines)
+
+-- ---- what each good step keeps
+
+-- what holds of the blank schedule, and stays behind each step that may come, holds of each account
+module _ (P : Schedule → Type 0)
+    (step : (s : Schedule) (e : Event) → is_too_many s e ≡ false → cause_of s e ≡ None → P s → P (after s e)) where
+  keeps_step : (a : Account) (e : Event) → P a.schedule → P (read_step a e).schedule
+  keeps_step a e kept = by (is_too_many a.schedule e) (cause_of a.schedule e) refl refl where
+    by : (b : Bool) (o : Option Cause) → is_too_many a.schedule e ≡ b → cause_of a.schedule e ≡ o
+        → P (cond b (standing_so a TooMany) (with_step a e o)).schedule
+    by true o many none = kept
+    by false None many none = step a.schedule e many none kept
+    by false (Some c) many some = kept
+
+  keeps_next : (a : Account) (l : List ℕ) → P a.schedule → P (next_line a l).schedule
+  keeps_next a l kept = by (is_open a) (nat_le (most_lines Two) a.lines) ((counted a).lines == 1)
+      (bytes_eq l (codes "schedule")) (step_in l) where
+        by : (o m f h : Bool) (s : Option Event)
+            → P (cond o (cond m (standing_so a TooMany) (after_line (counted a) f h s)) a).schedule
+        by false m f h s = kept
+        by true true f h s = kept
+        by true false true true s = kept
+        by true false true false s = kept
+        by true false false h None = kept
+        by true false false h (Some e) = keeps_step (counted a) e kept
+
+  keeps_all : (ls : List (List ℕ)) (a : Account) → P a.schedule → P (fold next_line a ls).schedule
+  keeps_all [] a kept = kept
+  keeps_all (l ∷ ls) a kept = keeps_all ls (next_line a l) (keeps_next a l kept)
+
+  pub account_keeps : P blank → (bytes : List ℕ) → P (account bytes).schedule
+  account_keeps begins bytes = keeps_all (lines_of bytes) no_lines begins

@@ -5,6 +5,7 @@ mod book;
 mod causes;
 mod intake;
 mod jobs;
+pub mod laws;
 mod reader;
 mod text;
 
