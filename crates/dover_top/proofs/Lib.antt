@@ -5,4 +5,5 @@ pub mod SoFar
 pub mod ServedLanes
 pub mod Asking
 pub mod Numbers
+pub mod Legal
 pub mod Saying

@@ -30,6 +30,7 @@ use Rattle.dover_top.proofs.Asking.{asks_one}
 use Rattle.dover_top.proofs.Keeping.{served, traced, resumed_so, accepted, ran, generated, baited, dueled}
 use Rattle.dover_top.proofs.ToldSure.{told_sure}
 use Rattle.dover_top.proofs.Budgeted.{budgeted_so}
+use Rattle.dover_top.proofs.Legal.{legal_so}
 use Rattle.dover_top.proofs.ServedLanes.{are_served, have_ended}
 use Rattle.dover_top.proofs.SoFar.{kept_so, served_so_far, resumed_so_far}
 
@@ -101,7 +102,8 @@ module _ (moves : List Move) where
   )
   keeps_of words Judge asks status s = λ done. accepted moves (at Judge status s done).ends.answer.0
   keeps_of words (Report form) asks status s = λ done. accepted moves (at (Report form) status s done).ends.answer.0
-  keeps_of words (Schedule form) asks status s = tt
+  keeps_of words (Schedule form) asks status s = λ done.
+      legal_so form moves (at (Schedule form) status s done).ends.answer
   keeps_of words (ReportTasks form) asks status s = tt
   keeps_of words (Trial seed count k) asks status s = λ done. generated k seed count asks.allowed asks.few
   keeps_of words (Bait k rounds) asks status s = λ done.

@@ -10,6 +10,7 @@ use Rattle.dover_top.specs.Promises.{KeepsPromises, IsTraced, IsTracedIfEnded, I
 use Rattle.dover_top.specs.Promises.{AreServed, HaveEnded, KeepsDuel, IsKept, IsServedSoFar, IsResumedSoFar, feed_in}
 use Rattle.dover_top.specs.SureTasks.{KeepsSure}
 use Rattle.dover_top.specs.BudgetTasks.{KeepsBudgets}
+use Rattle.dover_top.specs.LegalSchedules.{IsLegal}
 use Rattle.dover_top.specs.declared.request.Request.{Request}
 use Rattle.dover_top.specs.declared.request.Request.TheVariants.{Serve, Judge, Report, Trial, Bait, Ask, Lanes, Pause}
 use Rattle.dover_top.specs.declared.request.Request.TheVariants.{Resume, Unroll, Duel, Draw, Sure, Budget, Ratio}
@@ -21,7 +22,7 @@ abbrev pub Keeps : Request → Status → List Move → Type 0
 Keeps Serve status moves = IsServedSoFar (ins moves) (outs moves) × (status ≡ Done → IsTraced moves)
 Keeps Judge status moves = status ≡ Done → IsAccepted moves
 Keeps (Report form) status moves = status ≡ Done → IsAccepted moves
-Keeps (Schedule form) status moves = Unit {0}
+Keeps (Schedule form) status moves = status ≡ Done → IsLegal moves
 Keeps (ReportTasks form) status moves = Unit {0}
 Keeps (Trial seed count k) status moves = status ≡ Done → KeepsPromises (trial_instance k seed count)
 Keeps (Bait k rounds) status moves = status ≡ Done → KeepsBaits k rounds
