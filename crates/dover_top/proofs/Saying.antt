@@ -31,7 +31,8 @@ use Rattle.dover_top.proofs.Keeping.{served, traced, resumed_so, accepted, ran, 
 use Rattle.dover_top.proofs.ToldSure.{told_sure}
 use Rattle.dover_top.proofs.Budgeted.{budgeted_so}
 use Rattle.dover_top.proofs.ServedLanes.{are_served, have_ended}
-use Rattle.dover_top.proofs.SoFar.{kept_so, served_so_far, resumed_so_far}
+use Rattle.dover_top.proofs.Resumed.{resumed_so_far}
+use Rattle.dover_top.proofs.SoFar.{kept_so, served_so_far}
 
 -- ---- Usage
 

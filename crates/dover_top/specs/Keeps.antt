@@ -3,7 +3,6 @@ use Rattle.std.specs.Prelude.{◌≡◌, ◌<◌, ◌⊎◌, ℕ, List}
 use Rattle.dover_port.specs.Moves.{Move, ins, outs}
 use Rattle.dover_port.specs.declared.status.Status.{Status}
 use Rattle.dover_port.specs.declared.status.Status.TheVariants.{Done, Refused}
-use Rattle.feed_words.specs.resume.Record.{EndsBefore}
 use Rattle.lane_server.specs.Lanes.{lane_count}
 use Rattle.trial_words.specs.Lists.{trial_instance}
 use Rattle.dover_top.specs.Promises.{KeepsPromises, IsTraced, IsTracedIfEnded, IsResumed, IsAccepted, KeepsBaits, IsRun}
@@ -29,8 +28,7 @@ Keeps (Ask question) status moves = status ≡ Done → IsRun moves
 Keeps Lanes status moves = ((lane : ℕ) → lane < lane_count → IsKept (feed_in moves lane))
     × ((status ≡ Done) ⊎ (status ≡ Refused) → AreServed moves) × (status ≡ Done → HaveEnded moves)
 Keeps Pause status moves = IsServedSoFar (ins moves) (outs moves) × (status ≡ Done → IsTracedIfEnded moves)
-Keeps (Resume at_end) status moves =
-    (EndsBefore status moves ⊎ IsResumedSoFar moves) × (status ≡ Done → IsResumed moves)
+Keeps (Resume at_end) status moves = IsResumedSoFar moves × (status ≡ Done → IsResumed moves)
 Keeps (Unroll until) status moves = Unit {0}
 Keeps Sure status moves = status ≡ Done → KeepsSure moves
 Keeps Ratio status moves = Unit {0}
