@@ -97,8 +97,8 @@ abbrev pub IsResumed : List Move → Type 0
 IsResumed moves = Behind (ins moves)
     (λ F H. is_ended (account (F ++ H)) ≡ true → IsTraceOf (F ++ H) (due F ++ outs moves))
 
--- Of each feed whose snapshot was read, and what follows it: what was due where it was paused, and what was written
--- behind that, serve the whole feed so far.
+-- Of each feed whose snapshot was read whole, and what follows it: what was due where it was paused, and what was
+-- written behind that, serve the whole feed so far.
 abbrev pub IsResumedSoFar : List Move → Type 0
 IsResumedSoFar moves = (F H : List ℕ) → MayPause F → ins moves ≡ snapshot F ++ H
     → IsServedSoFar (F ++ H) (due F ++ outs moves)
@@ -107,8 +107,8 @@ IsResumedSoFar moves = (F H : List ℕ) → MayPause F → ins moves ≡ snapsho
 pub record IsAccepted (bytes : List ℕ) : Type 0 where
   pub session : Session
   pub valid : IsValidSession session
-  pub text : ins moves ≡ trace_of_session session
-  pub accepted : verdict (ins moves) ≡ Accepted session
+  pub text : bytes ≡ trace_of_session session
+  pub accepted : verdict bytes ≡ Accepted session
   pub promises : KeepsPromises (instance_of session)
 
 -- what stands of the run of these baiting jobs
