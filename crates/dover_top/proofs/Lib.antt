@@ -2,6 +2,7 @@ pub mod Keeping
 pub mod ToldSure
 pub mod Budgeted
 pub mod SoFar
+pub mod Resumed
 pub mod ServedLanes
 pub mod Asking
 pub mod Numbers
