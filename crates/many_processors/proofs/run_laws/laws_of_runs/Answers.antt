@@ -9,6 +9,7 @@ use Rattle.dover_model.specs.Common.{Each, is_privileged}
 use Rattle.dover_model.proofs.steps.Roles.{passes}
 use Rattle.many_processors.specs.Step.{Ticks}
 use Rattle.many_processors.specs.Ticks.{SomeRunsOn, takes_or_abandons}
+use Rattle.many_processors.proofs.runs.OneProcessor.{one_prints}
 use Rattle.many_processors.proofs.runs.Underload.{step_keeps_all, all_completed}
 use Rattle.many_processors.proofs.run_laws.laws_of_runs.Goals as goal
 
@@ -61,3 +62,6 @@ returns-clause-none_lost c processors J some valid few = each_step processors J 
 
 pub returns-clause-all_value : goal.returns-clause-all_value
 returns-clause-all_value c processors J some valid few = all_completed processors J valid some few
+
+pub returns-clause-one_processor : goal.returns-clause-one_processor
+returns-clause-one_processor c = one_prints
