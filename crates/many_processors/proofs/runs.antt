@@ -6,3 +6,4 @@ pub mod RunEnds
 pub mod RanFor
 pub mod Honest
 pub mod Underload
+pub mod Sure

@@ -6,3 +6,6 @@ pub mod Run
 pub mod Sound
 pub mod Ticks
 pub mod Observed
+pub mod MoreProcessors
+pub mod Lanes
+pub mod Sure
