@@ -7,3 +7,4 @@ pub mod RanFor
 pub mod Honest
 pub mod Underload
 pub mod OneProcessor
+pub mod Sure

@@ -1,24 +1,17 @@
 -- The books of a run of several processors: what is known of its intervals, of the ticks that it gives, and of the jobs
 -- that are over.
 use Rattle.std.specs.Prelude.{◌≡◌, ℕ, zero, suc, ◌+◌, ◌*◌, ◌≤◌, ◌<◌, ◌⊎◌, List, [], ◌∷◌, length, Bool, ◌&&◌, nat_le}
-use Rattle.std.specs.Prelude.{nat_lt, not, ◌==◌, ◌++◌, ◌-◌, max, Option, Some, None}
+use Rattle.std.specs.Prelude.{nat_lt, not, ◌==◌, ◌++◌, ◌-◌}
 use Rattle.std.specs.List.{count_by, sum_by}
 use Rattle.dover_model.specs.Fraction.{Fraction}
-use Rattle.dover_model.specs.declared.factors.Factor.{Factor}
 use Rattle.dover_model.specs.JobFacts.{JobFacts}
 use Rattle.dover_model.specs.Orders.{is_heavy}
 use Rattle.dover_model.specs.Sound.{IsMember, Each}
-use Rattle.dover_model.specs.Books.{Job, job_value, IsDense}
+use Rattle.dover_model.specs.Books.{Job, job_value, IsDense, IsPaid}
 
--- d, and e once more, are paid by z: with the ratio k = p/q, k·d + e is at most √k times z, or with the factor β =
--- b/c at most the greater of 1 and k/(β-1) times it
-abbrev pub IsPaidTwiceBy : Fraction → Option Factor → ℕ → ℕ → ℕ → Type 0
-IsPaidTwiceBy k None d e z = (k.p * d + k.q * e) * (k.p * d + k.q * e) ≤ k.p * k.q * z * z
-IsPaidTwiceBy k (Some f) d e z = (f.b - f.c) * (k.p * d + k.q * e) ≤ max (k.q * (f.b - f.c)) (k.p * f.c) * z
-
--- by what the ratio says
+-- d, and e besides, are paid by z: e is at most z, and what z is more pays for d
 abbrev pub IsPaidTwice : Fraction → ℕ → ℕ → ℕ → Type 0
-IsPaidTwice k d e z = IsPaidTwiceBy k k.factor d e z
+IsPaidTwice k d e z = (e ≤ z) × IsPaid k d (z - e)
 
 -- an interval of a processor, in which jobs run on it or are held on it
 pub record Interval : Type 0 where

@@ -8,3 +8,6 @@ pub mod Ticks
 pub mod Observed
 pub mod Settled
 pub mod Online
+pub mod MoreProcessors
+pub mod Lanes
+pub mod Sure

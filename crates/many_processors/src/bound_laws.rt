@@ -1,22 +1,46 @@
 //! Laws of the competitive bound of several processors, each a clause of a function that does nothing.
-ghost use Rattle.std.specs.Prelude.{ℕ, ◌≤◌, List, sum_by};
-ghost use Rattle.dover_model.specs.Common.{Fraction, Instance, IsValid, IsWithin, numbered};
+ghost use Rattle.std.specs.Prelude.{◌≡◌, ℕ, ◌≤◌, ◌*◌, ◌-◌, List, length, sum_by};
+ghost use Rattle.dover_model.specs.Common.{Fraction, Instance, IsValid, IsHeavy, IsWithin, IsMember, Each, numbered};
 ghost use Rattle.dover_model.specs.JobFacts.{JobFacts};
 ghost use Rattle.dover_model.specs.Books.{Job, IsLeastDense};
 ghost use Rattle.many_processors.specs.Books.{AreBooks, completed_in};
 ghost use Rattle.many_processors.specs.Run.{completed_value, ran};
 ghost use Rattle.many_processors.specs.Schedules.{IsFor, worth};
+ghost use Rattle.many_processors.specs.MoreProcessors.{IsWithinTimes};
+ghost use Rattle.many_processors.specs.Lanes.{LaneSchedule, worth_of_lanes};
+ghost use Rattle.many_processors.specs.Sure.{worth_beside, IsCompleted};
 
-/// - `over_books`: over any books of a run on so many processors, no schedule of as many, which may move jobs from
-///   one to another in any tick, is worth more than the bound of what the run completes: the bound of one processor.
+/// - `over_books`: over any books of a run on so many processors, no schedule of some times as many, which may move jobs
+///   from one to another in any tick, is worth more than so many times the bound of what the run completes.
 /// - `has_books`: each run has books, with the ticks that it gives.
-/// - `same_number`: so no schedule of as many processors is worth more than the bound of what a run completes.
+/// - `same_number`: so no schedule of as many processors is worth more than the bound of what a run completes: the bound of
+///   one processor.
+/// - `more_processors`: with the factor β, no schedule of g times as many is worth more than g(β + k) and the greater of 1
+///   and gk/(β-1), times what a run completes; by the root, no more than g(1+√k)² times that.
+/// - `lanes`: where jobs are dealt to lanes in whatever way, and each lane has a run on one processor of its own, no schedule
+///   of the jobs of all lanes on g processors is worth more than that, times what all lanes complete together.
+/// - `one_job`: where no job is heavy against one, and so many times its value as there are processors is heavy against the
+///   values of all other jobs whose windows have its latest start, together, it is completed.
+/// - `times_the_bound`: so none is worth more than the bound of g times what a run completes.
 pub fn laws_of_bounds()
-    ensures over_books { (k : Fraction) (v w processors : ℕ) (jobs : List Job) (ran s : List (List ℕ))
-        → (books : AreBooks k v w processors jobs ran) → IsFor processors s
-        → IsWithin k (worth jobs s) (sum_by completed_in books.intervals) }
+    ensures over_books { (k : Fraction) (v w processors times : ℕ) (jobs : List Job) (ran s : List (List ℕ))
+        → (books : AreBooks k v w processors jobs ran) → 1 ≤ times → IsFor (times * processors) s
+        → IsWithinTimes times k (worth jobs s) (sum_by completed_in books.intervals) }
     ensures has_books { (processors : ℕ) (J : Instance) (j : JobFacts) → 1 ≤ processors → IsValid J → IsLeastDense J j
         → AreBooks J.rules.ratio j.value j.work processors (numbered J) (ran processors J) }
     ensures same_number { (processors : ℕ) (J : Instance) (s : List (List ℕ)) → 1 ≤ processors → IsValid J
         → IsFor processors s → IsWithin J.rules.ratio (worth (numbered J) s) (completed_value processors J) }
+    ensures more_processors { (processors times : ℕ) (J : Instance) (s : List (List ℕ)) → 1 ≤ processors → 1 ≤ times
+        → IsValid J → IsFor (times * processors) s
+        → IsWithinTimes times J.rules.ratio (worth (numbered J) s) (completed_value processors J) }
+    ensures lanes { (k : Fraction) (processors : ℕ) (lanes : List Instance) (s : LaneSchedule) → 1 ≤ processors
+        → Each (λ J. IsValid J × (J.rules.ratio ≡ k)) lanes → Each (λ names. length names ≤ processors) s
+        → IsWithinTimes processors k (worth_of_lanes lanes s) (sum_by (completed_value 1) lanes) }
+    ensures one_job { (processors n : ℕ) (J : Instance) (j : JobFacts) → 1 ≤ processors → IsValid J
+        → IsMember (n, j) (numbered J) → Each (λ i. IsHeavy J.rules.ratio i.value j.value → ⊥) J.jobs
+        → IsHeavy J.rules.ratio (processors * j.value) (worth_beside J n (j.deadline - j.work))
+        → IsCompleted processors J n }
+    ensures times_the_bound { (processors times : ℕ) (J : Instance) (s : List (List ℕ)) → 1 ≤ processors → 1 ≤ times
+        → IsValid J → IsFor (times * processors) s
+        → IsWithin J.rules.ratio (worth (numbered J) s) (times * completed_value processors J) }
 {}

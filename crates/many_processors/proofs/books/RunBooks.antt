@@ -28,6 +28,7 @@ use Rattle.many_processors.specs.State.{Placed, State, tasks_of, seen_by, openin
 use Rattle.many_processors.specs.Step.{all_seen, numbers_from, step}
 use Rattle.many_processors.specs.Run.{run_from, run, enough, HasEnd, completed_value, ran}
 use Rattle.many_processors.specs.Schedules.{IsFor, worth}
+use Rattle.many_processors.specs.MoreProcessors.{IsWithinTimes}
 use Rattle.many_processors.specs.Sound.{Keeps}
 use Rattle.many_processors.specs.Books.{Interval, Over, completed_in, open_at, is_open, given_at, IsBusyIn, AreBooks}
 use Rattle.many_processors.proofs.steps.Seeing.{each_sees, numbers_below}
@@ -40,6 +41,7 @@ use Rattle.many_processors.proofs.runs.Outcomes as outcomes
 use Rattle.many_processors.proofs.books.Booked.{Open, shut, number_and_job, WasBusy, Booked, is_light_on, fallen_value}
 use Rattle.many_processors.proofs.books.StepBooks.{step_booked}
 use Rattle.many_processors.proofs.bound.Bounding.{many_bound}
+use Rattle.many_processors.proofs.bound.Chains.{times_bound}
 
 module _ (v w processors : ℕ) (some : 1 ≤ processors) (J : Instance) (valid : IsValid J)
     (modest_jobs : Each (IsModest J.rules.ratio v w) J.jobs) where
@@ -223,11 +225,12 @@ module _ (v w processors : ℕ) (some : 1 ≤ processors) (J : Instance) (valid 
       sum_map (λ (p : Placed). p.task) (λ t. cond (is_done t) t.job.value 0) s.jobs,
     )
 
-    ended_bound : (schedule : List (List ℕ)) → IsFor processors schedule
-        → IsWithin J.rules.ratio (worth (numbered J) schedule) (value_sum (filter is_done (tasks_of s.jobs)))
+    ended_bound : (times : ℕ) → 1 ≤ times → (schedule : List (List ℕ)) → IsFor (times * processors) schedule
+        → IsWithinTimes times J.rules.ratio (worth (numbered J) schedule) (value_sum (filter is_done (tasks_of s.jobs)))
     unfolding are_books
-    ended_bound schedule few = subst (IsWithin J.rules.ratio (worth (numbered J) schedule)) completed
-        (many_bound J.rules.ratio v w processors (numbered J) ran are_books schedule few)
+    ended_bound times some_times schedule few =
+        subst (IsWithinTimes times J.rules.ratio (worth (numbered J) schedule)) completed
+        (many_bound J.rules.ratio v w processors (numbered J) ran are_books times some_times schedule few)
 
   -- ---- the opening
 
@@ -285,12 +288,13 @@ module _ (v w processors : ℕ) (some : 1 ≤ processors) (J : Instance) (valid 
         (λ t m. passes is_privileged t Coming false (come_coming 0 J.jobs t m).0 refl)
 
   -- the bound of a run that ends
-  bound_by : 1 ≤ w → HasEnd (run processors J) → (schedule : List (List ℕ)) → IsFor processors schedule
-      → IsWithin J.rules.ratio (worth (numbered J) schedule) (completed_value processors J)
-  bound_by some_work ends schedule few =
+  bound_by : 1 ≤ w → HasEnd (run processors J) → (times : ℕ) → 1 ≤ times → (schedule : List (List ℕ))
+      → IsFor (times * processors) schedule
+      → IsWithinTimes times J.rules.ratio (worth (numbered J) schedule) (completed_value processors J)
+  bound_by some_work ends times some_times schedule few =
       let out = outcome (enough J.jobs) (opening J.jobs) [] (opening_kept processors J) opening_booked ends in
-      subst (IsWithin J.rules.ratio (worth (numbered J) schedule)) (sym out.value)
-      (ended_bound out.last out.ran out.keeps out.holds out.over some_work schedule few)
+      subst (IsWithinTimes times J.rules.ratio (worth (numbered J) schedule)) (sym out.value)
+      (ended_bound out.last out.ran out.keeps out.holds out.over some_work times some_times schedule few)
 
 -- the books of a run that ends, with the ticks that it gives
 pub run_books : (processors : ℕ) (J : Instance) → 1 ≤ processors → IsValid J → HasEnd (run processors J)
@@ -304,14 +308,25 @@ run_books processors J some valid ends j least =
     (are_books j.value j.work processors some J valid modest out.last out.ran out.keeps out.holds out.over
     (job_limits (all_member IsJob J.jobs (valid_parts valid).each j least.job)).work)
 
--- no schedule of as many processors is worth more than the bound of what the run completes
-pub run_bound : (processors : ℕ) (J : Instance) (schedule : List (List ℕ)) → 1 ≤ processors → IsValid J
+-- no schedule of so many times as many processors is worth more than so many times the bound of what the run completes
+pub run_bound : (times processors : ℕ) (J : Instance) (schedule : List (List ℕ)) → 1 ≤ times → 1 ≤ processors → IsValid J
+    → HasEnd (run processors J) → IsFor (times * processors) schedule
+    → IsWithinTimes times J.rules.ratio (worth (numbered J) schedule) (completed_value processors J)
+run_bound times processors J schedule some_times some valid ends few = by_jobs (some_least J valid) where
+  by_jobs : (J.jobs ≡ []) ⊎ ((j : JobFacts) × IsLeastDense J j)
+      → IsWithinTimes times J.rules.ratio (worth (numbered J) schedule) (completed_value processors J)
+  by_jobs (inr it) = bound_by it.0.value it.0.work processors some J valid (least_modest J valid it.0 it.1)
+      (job_limits (all_member IsJob J.jobs (valid_parts valid).each it.0 it.1.job)).work ends times some_times schedule few
+  by_jobs (inl none) = bound_by 0 1 processors some J valid
+      (λ i member. absurd (subst (IsMember i) none member)) (omega arith) ends times some_times schedule few
+
+-- nor is one of as many processors worth more than the bound
+pub run_bound_same : (processors : ℕ) (J : Instance) (schedule : List (List ℕ)) → 1 ≤ processors → IsValid J
     → HasEnd (run processors J) → IsFor processors schedule
     → IsWithin J.rules.ratio (worth (numbered J) schedule) (completed_value processors J)
-run_bound processors J schedule some valid ends few = by_jobs (some_least J valid) where
-  by_jobs : (J.jobs ≡ []) ⊎ ((j : JobFacts) × IsLeastDense J j)
-      → IsWithin J.rules.ratio (worth (numbered J) schedule) (completed_value processors J)
-  by_jobs (inr it) = bound_by it.0.value it.0.work processors some J valid (least_modest J valid it.0 it.1)
-      (job_limits (all_member IsJob J.jobs (valid_parts valid).each it.0 it.1.job)).work ends schedule few
-  by_jobs (inl none) = bound_by 0 1 processors some J valid
-      (λ i member. absurd (subst (IsMember i) none member)) (omega arith) ends schedule few
+run_bound_same processors J schedule some valid ends few =
+    let single : (n : ℕ) → n ≡ 1 * n = (λ n. omega arith) in
+    subst (IsWithin J.rules.ratio (worth (numbered J) schedule)) (sym (single (completed_value processors J)))
+    (times_bound 1 (omega arith) J.rules.ratio (worth (numbered J) schedule) (completed_value processors J)
+    (run_bound 1 processors J schedule (omega arith) some valid ends
+    (subst (λ n. IsFor n schedule) (single processors) few)))

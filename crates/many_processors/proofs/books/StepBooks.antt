@@ -46,8 +46,7 @@ use Rattle.many_processors.proofs.steps.Stepping.{real, same_job}
 use Rattle.many_processors.proofs.runs.EachStep.{is_tick, no_tick}
 use Rattle.many_processors.proofs.runs.Outcomes.{ran_after}
 use Rattle.many_processors.proofs.steps.Turns.{which, running_job, all_quiet, of_tasks}
-use Rattle.many_processors.proofs.books.Booked.{own_sum, value_of, number_and_job, Taker, comes_to, Booked, Open, shut}
-use Rattle.many_processors.proofs.books.Booked.{is_excused}
+use Rattle.many_processors.proofs.books.Booked.{own_sum, seen_value, value_of, number_and_job, Taker, comes_to, Booked, Open, shut, is_excused}
 use Rattle.many_processors.proofs.books.MovedSteps.{off_booked, same_booked, run_booked, at_one, on_each}
 use Rattle.many_processors.proofs.books.TakenSteps.{preempt_booked, take_booked}
 use Rattle.many_processors.proofs.books.OverSteps.{gone_booked, busy_before, busy_over}
@@ -230,32 +229,6 @@ module _ (k : Fraction) (some_q : 1 ≤ k.q) (ratio : k.q ≤ k.p) (v w processo
 
   module _ (some_left : Each (λ p. is_privileged p.task ≡ true → 1 ≤ left p.task) s.jobs) (i : ℕ)
       (i_low : i < processors) where
-    -- the value of what the processor sees is that of its own
-    seen_value : value_sum (privileged (seen_from i s)) ≡ own_sum i value_of s.jobs
-    seen_value = sum_filter is_privileged (λ t. t.job.value) (map (seen_by i) s.jobs)
-        ∙ sum_map (seen_by i) (λ t. cond (is_privileged t) t.job.value 0) s.jobs
-        ∙ sum_same (λ p. cond (is_privileged (seen_by i p)) (seen_by i p).job.value 0)
-        (λ p. cond (is_own_of i p) (value_of p) 0) s.jobs (λ p member. same p member (is_own_of i p) refl) where
-          same : (p : Placed) → IsMember p s.jobs → (b : Bool) → is_own_of i p ≡ b
-              → cond (is_privileged (seen_by i p)) (seen_by i p).job.value 0 ≡ cond (is_own_of i p) (value_of p) 0
-          same p member true e =
-              let both = and_parts (is_privileged p.task) (p.owner == i) e in
-              let seen_p : seen_by i p ≡ p.task = own_seen i p (eqb-true _ _ both.1) in
-              ap (λ (t : Task). cond (is_privileged t) t.job.value 0) seen_p
-              ∙ ap (λ b. cond b (value_of p) 0) both.0 ∙ sym (ap (λ b. cond b (value_of p) 0) e)
-          same p member false e = ap (λ b. cond b (seen_by i p).job.value 0) (out (is_privileged (seen_by i p)) refl)
-              ∙ sym (ap (λ b. cond b (value_of p) 0) e) where
-                out : (b : Bool) → is_privileged (seen_by i p) ≡ b → is_privileged (seen_by i p) ≡ false
-                out false f = f
-                out true f =
-                    let own = seen_own i p f in
-                    never (sym e ∙ both_true (is_privileged p.task) (p.owner == i) (sym (ap is_privileged own.0) ∙ f)
-                    (eq-eqb _ _ own.1)) where
-                      both_true : (a b : Bool) → a ≡ true → b ≡ true → (a && b) ≡ true
-                      both_true true true e f = refl
-                      both_true true false e f = never f
-                      both_true false b e f = never e
-
     -- where none runs as the processor sees it, none of its own does
     none_own : NoneRuns (map (seen_by i) s.jobs) → Each (λ p. p.task.role ≡ Running → p.owner ≡ i → ⊥) s.jobs
     none_own none p member runs own =
@@ -350,7 +323,7 @@ module _ (k : Fraction) (some_q : 1 ≤ k.q) (ratio : k.q ≤ k.p) (v w processo
         y.0 y.1 (ap (λ (u : Task). u.role) y.2 ∙ runs) y.3 some_q ratio (λ p p_member. (modest p p_member).1)
         (subst (λ (u : Task). s.clock + left u ≡ u.job.deadline) (sym z.2) (omega (arith, now, fits.2)))
         (subst (λ (u : Task). IsHeavy k u.job.value (own_sum i value_of s.jobs)) (sym z.2)
-        (subst (IsHeavy k x.job.value) seen_value heavy))))
+        (subst (IsHeavy k x.job.value) (seen_value s i) heavy))))
     deed_booked m (Abandoned r x member runs some_r x_member waits now stale light) kind = never (sym kind)
     deed_booked m (Rested quiet) kind = same_booked k v w processors ran s booked i 0 _
 
@@ -457,8 +430,7 @@ module _ (rules : Rules) (some_q : 1 ≤ rules.ratio.q) (above : rules.ratio.q �
               (value_sum (privileged (seen_from j s))) (comes_to booked.way s.jobs j)
               (omega (
                 arith,
-                seen_value rules.ratio some_q above v w processors some J valid modest_jobs ran s keeps booked
-                    some_left j low,
+                seen_value s j,
               ))
               (subst (λ (t : Task). is_heavy rules.ratio t.job.value (comes_to booked.way s.jobs j) ≡ true) x.2 e)))
 

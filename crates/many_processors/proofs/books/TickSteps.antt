@@ -61,7 +61,7 @@ none_below n q (suc more) low = omega (
   none_below n (suc q) more (omega (arith, low)),
 )
 
-one_number : (n q more : ℕ) → sum_by (λ j. one (eqb n j)) (numbers_from q more) ≤ 1
+pub one_number : (n q more : ℕ) → sum_by (λ j. one (eqb n j)) (numbers_from q more) ≤ 1
 one_number n q zero = omega arith
 one_number n q (suc more) = by_test (eqb n q) refl (one_number n (suc q) more) where
   by_test : (b : Bool) → eqb n q ≡ b → sum_by (λ j. one (eqb n j)) (numbers_from (suc q) more) ≤ 1

@@ -1,10 +1,9 @@
 -- The competitive bound over any books of a run of several processors.
-use Rattle.std.proofs.Common.{◌≡◌, ℕ, ◌+◌, ◌-◌, ◌*◌, ◌≤◌, ◌⊎◌, inl, inr, List, [], ◌∷◌, ◌++◌, length, refl, sym}
-use Rattle.std.proofs.Common.{◌∙◌, subst, Bool, true, false, cond, eqb, arith, sum_by, filter, leb-true}
+use Rattle.std.proofs.Common.{◌≡◌, ℕ, suc, zero, ◌+◌, ◌-◌, ◌*◌, ◌≤◌, ◌⊎◌, inl, inr, List, [], ◌∷◌, ◌++◌, length, refl, sym}
+use Rattle.std.proofs.Common.{◌∙◌, ap, subst, Bool, true, false, cond, eqb, arith, sum_by, filter, leb-true}
 use Rattle.std.proofs.Math.Nat.{mul-le-mul_left}
 use Rattle.std.proofs.lemmas.List.Sums.{sum_by-cons, sum_by-append}
 use Rattle.dover_model.specs.Fraction.{Fraction}
-use Rattle.dover_model.specs.Bound.{IsWithin}
 use Rattle.dover_model.specs.Orders.{IsHeavy}
 use Rattle.dover_model.specs.Sound.{IsMember, Each}
 use Rattle.dover_model.specs.Books.{Job, job_value, IsExcess}
@@ -17,38 +16,48 @@ use Rattle.dover_model.proofs.bound.Counting.{one}
 use Rattle.many_processors.specs.Schedules.{is_served, earned, worth, IsFor}
 use Rattle.many_processors.specs.Books.{Interval, Over, job_of, completed_in, IsBusyIn, TakenIn, GoneIn, is_light_in}
 use Rattle.many_processors.specs.Books.{AreBooks}
+use Rattle.many_processors.specs.MoreProcessors.{IsWithinTimes}
 use Rattle.many_processors.proofs.bound.Aside.{set_aside}
-use Rattle.many_processors.proofs.bound.Chains.{twice_sum, within_twice}
+use Rattle.many_processors.proofs.bound.Chains.{twice_sum, within_times}
+use Rattle.many_processors.proofs.bound.Copies.{each_times, times_sum, times_order}
 use Rattle.many_processors.proofs.bound.Sharing.{NamesOnce, SetAside, light_parts, in_order_of}
 use Rattle.many_processors.proofs.bound.Summing.{works_fit}
 
 -- ---- numbers
 
--- what a schedule earns by jobs completed before a take (usual, of r), after one (served, of served + other), by
--- those that a first take displaced (lost, of e; of which so much, spare, is completed), set aside (aside) and
--- abandoned besides (rest, of so much work), where they fit the ticks
-parts_most : (p q v w usual served other spare lost aside rest work ticks had other_had r d e y : ℕ) → 1 ≤ w → q ≤ p
-    → usual ≤ r → lost ≤ e
-    → work + had ≤ ticks → v * ticks ≤ w * (r + d + spare) + v * (had + other_had) → v * other_had ≤ w * other
-    → q * w * rest ≤ p * v * work → aside ≤ (r + (served + other + spare)) + y
+-- so many times less, and more
+swap : (times x y : ℕ) → 1 ≤ times → x ≤ y → times * x + y ≤ times * y + x
+swap zero x y some low = absurd (omega (arith, some))
+swap (suc n) x y some low = let more : n * x ≤ n * y = mul-le-mul_left n low in omega (arith, more)
+
+-- what a schedule earns by jobs completed before a take (usual, of r), after one (served, of served + other), by those
+-- that a first take displaced (lost, of e; of which so much, spare, is completed), set aside (aside) and abandoned besides
+-- (rest, of so much work), where they fit so many times the ticks
+parts_most : (times p q v w usual served other spare lost aside rest work ticks had other_had r d e y : ℕ) → 1 ≤ times
+    → 1 ≤ w → q ≤ p → usual ≤ r → lost ≤ e → work + had ≤ times * ticks
+    → v * ticks ≤ w * (r + d + spare) + v * (had + other_had) → v * other_had ≤ w * other → v * had ≤ w * served
+    → q * w * rest ≤ p * v * work → aside ≤ times * (r + (served + other + spare)) + y
     → q * (usual + served + lost + (aside + rest))
-    ≤ (p + q) * (r + (served + other + spare)) + (q * r + (p * d + q * e) + q * y)
-parts_most p q v w usual served other spare lost aside rest work ticks had other_had r d e y some ratio low few fit
-    paid own
-    dense little =
-    let fit_times : p * v * (work + had) ≤ p * v * ticks = mul-le-mul_left (p * v) fit in
-    let paid_times : p * (v * ticks) ≤ p * (w * (r + d + spare) + v * (had + other_had)) = mul-le-mul_left p paid in
-    let own_times : p * (v * other_had) ≤ p * (w * other) = mul-le-mul_left p own in
+    ≤ times * ((p + q) * (r + (served + other + spare))) + (q * r + times * (p * d) + q * e + q * y)
+parts_most times p q v w usual served other spare lost aside rest work ticks had other_had r d e y some_times some ratio low
+    few fit paid own had_paid dense little =
+    let fit_times : p * v * (work + had) ≤ p * v * (times * ticks) = mul-le-mul_left (p * v) fit in
+    let paid_times : times * p * (v * ticks) ≤ times * p * (w * (r + d + spare) + v * (had + other_had)) =
+    mul-le-mul_left (times * p) paid in
+    let own_times : times * p * (v * other_had) ≤ times * p * (w * other) = mul-le-mul_left (times * p) own in
+    let swapped : p * (times * (v * had) + w * served) ≤ p * (times * (w * served) + v * had) =
+    mul-le-mul_left p (swap times (v * had) (w * served) some_times had_paid) in
     let served_times : w * served * q ≤ w * served * p = mul-le-mul_left (w * served) ratio in
     let usual_times : w * q * usual ≤ w * q * r = mul-le-mul_left (w * q) low in
     let lost_times : w * q * lost ≤ w * q * e = mul-le-mul_left (w * q) few in
-    let aside_times : w * q * aside ≤ w * q * ((r + (served + other + spare)) + y) = mul-le-mul_left (w * q) little in
+    let aside_times : w * q * aside ≤ w * q * (times * (r + (served + other + spare)) + y) =
+    mul-le-mul_left (w * q) little in
     cancel w (q * (usual + served + lost + (aside + rest)))
-    ((p + q) * (r + (served + other + spare)) + (q * r + (p * d + q * e) + q * y)) some
-    (omega (arith, fit_times, paid_times, own_times, served_times, usual_times, lost_times, aside_times, dense))
+    (times * ((p + q) * (r + (served + other + spare))) + (q * r + times * (p * d) + q * e + q * y)) some
+    (omega (arith, fit_times, paid_times, own_times, swapped, served_times, usual_times, lost_times, aside_times, dense))
 
 -- what is above adds up
-excess_sum : (k : Fraction) → 1 ≤ k.q → k.q ≤ k.p → {X : Type 0} → (f g : X → ℕ) (xs : List X)
+pub excess_sum : (k : Fraction) → 1 ≤ k.q → k.q ≤ k.p → {X : Type 0} → (f g : X → ℕ) (xs : List X)
     → Each (λ x. IsExcess k (f x) (g x)) xs → IsExcess k (sum_by f xs) (sum_by g xs)
 excess_sum k some_q ratio f g [] all = excess_zero k 0
 excess_sum k some_q ratio f g (x ∷ xs) all =
@@ -61,7 +70,8 @@ excess_sum k some_q ratio f g (x ∷ xs) all =
 -- ---- one schedule
 
 module _ (k : Fraction) (v w : ℕ) (processors : ℕ) (jobs : List Job) (ran : List (List ℕ))
-    (books : AreBooks k v w processors jobs ran) (s : List (List ℕ)) (few : IsFor processors s) where
+    (books : AreBooks k v w processors jobs ran) (times : ℕ) (some_times : 1 ≤ times) (s : List (List ℕ))
+    (few : IsFor (times * processors) s) where
   -- the schedule serves the job
   abbrev serves : Over → Bool
   serves o = is_served s (job_of o)
@@ -114,17 +124,23 @@ module _ (k : Fraction) (v w : ℕ) (processors : ℕ) (jobs : List Job) (ran : 
   is_gone o member = let it = member_filter serves books.gone o member in (it.1, books.gone_are o it.0)
 
   -- what is set aside
-  aside : SetAside k books.intervals gone
+  aside : SetAside k (each_times times books.intervals) gone
   aside = set_aside (λ (i : Interval). i.until) (λ (o : Over). o.job.deadline) (λ i o. is_light_in k o i)
-      books.intervals gone (in_order_of k books.intervals books.in_order)
+      (each_times times books.intervals) gone
+      (in_order_of k (each_times times books.intervals) (times_order times books.intervals books.in_order))
 
   -- the others ask for no more ticks than the run gives
-  fit : sum_by (λ o. o.job.work) aside.rest + sum_by (λ o. o.had) taken ≤ sum_by length ran
-  fit = works_fit k processors books.intervals taken gone ran once books.covered busy
-      (λ o member. (is_gone o member).1.light) aside s few
-      (λ o member. leb-true _ _ (is_taken o member).0) (λ o member. leb-true _ _ (is_gone o member).0)
-      (λ o member. ((is_taken o member).1.at_most_work, (is_taken o member).1.reach))
-      (λ o member. (is_gone o member).1.reach)
+  fit : sum_by (λ o. o.job.work) aside.rest + sum_by (λ o. o.had) taken ≤ times * sum_by length ran
+  fit = omega (
+    arith,
+    works_fit k times some_times processors books.intervals taken gone ran once books.covered busy
+        (λ o member. (is_gone o member).1.light) aside s few (λ o. o.job.work)
+        (λ o member. leb-true _ _ (is_taken o member).0) (λ o member. leb-true _ _ (is_gone o member).0)
+        (λ o member. ((is_taken o member).1.at_most_work, (is_taken o member).1.reach))
+        (λ o member. (is_gone o member).1.reach),
+    sum_le (λ (o : Over). o.had) (λ o. o.job.work - (o.job.work - o.had)) taken
+        (λ o member. let most : o.had ≤ o.job.work = (is_taken o member).1.at_most_work in omega (arith, most)),
+  )
 
   -- ---- values
 
@@ -166,6 +182,10 @@ module _ (k : Fraction) (v w : ℕ) (processors : ℕ) (jobs : List Job) (ran : 
         by_test true had value paid = omega arith
         by_test false had value paid = paid
 
+  -- so do those of the served ones
+  served_paid : v * sum_by (λ o. o.had) taken ≤ w * sum_by (λ o. o.job.value) taken
+  served_paid = scaled_sum v w (λ (o : Over). o.had) (λ o. o.job.value) taken (λ o member. (is_taken o member).1.had_paid)
+
   -- what a job that is set aside is worth above what its interval completes
   abbrev above : Interval × Over → ℕ
   above p = p.1.job.value - completed_in p.0
@@ -177,35 +197,38 @@ module _ (k : Fraction) (v w : ℕ) (processors : ℕ) (jobs : List Job) (ran : 
   completed_parts : sum_by completed_in books.intervals ≡ regular_all + taken_all
   completed_parts = sum_plus (λ (i : Interval). i.regular) (λ i. i.taken) books.intervals
 
+  -- so many times over
+  completed_times : sum_by completed_in (each_times times books.intervals) ≡ times * (regular_all + taken_all)
+  completed_times = times_sum completed_in times books.intervals ∙ ap (λ n. times * n) completed_parts
+
   -- it is little
-  little : IsExcess k above_all (regular_all + taken_all)
+  little : IsExcess k above_all (times * (regular_all + taken_all))
   little =
       let some : IsExcess k above_all (sum_by (λ p. completed_in p.0) aside.pairs) =
       excess_sum k books.some_q books.ratio above (λ p. completed_in p.0) aside.pairs
       (λ p member. let it = aside.members p member in not_heavy k p.1.job.value (completed_in p.0)
-      (light p it.0 it.1 it.2)) in
+      (light p it.2)) in
       let all : IsExcess k (above_all + 0)
       (sum_by (λ p. completed_in p.0) aside.pairs + sum_by completed_in aside.others) =
       excess_add k books.some_q books.ratio above_all 0 (sum_by (λ p. completed_in p.0) aside.pairs)
       (sum_by completed_in aside.others) some (excess_zero k (sum_by completed_in aside.others)) in
-      subst (λ n. IsExcess k n (regular_all + taken_all)) (same above_all)
-      (subst (IsExcess k (above_all + 0)) (sym (aside.intervals completed_in) ∙ completed_parts) all) where
+      subst (λ n. IsExcess k n (times * (regular_all + taken_all))) (same above_all)
+      (subst (IsExcess k (above_all + 0)) (sym (aside.intervals completed_in) ∙ completed_times) all) where
         same : (n : ℕ) → n + 0 ≡ n
         same n = omega arith
 
-        light : (p : Interval × Over) → IsMember p.0 books.intervals → IsMember p.1 gone → is_light_in k p.1 p.0 ≡ true
-            → IsHeavy k p.1.job.value (completed_in p.0) → ⊥
-        light p i_member o_member is_own heavy = never (sym (light_parts k p.1 p.0 is_own).2 ∙ heavy)
+        light : (p : Interval × Over) → is_light_in k p.1 p.0 ≡ true → IsHeavy k p.1.job.value (completed_in p.0) → ⊥
+        light p is_own heavy = never (sym (light_parts k p.1 p.0 is_own).2 ∙ heavy)
 
   -- what is set aside is worth no more than what all intervals complete, and what is above
-  aside_worth : sum_by (λ p. p.1.job.value) aside.pairs ≤ (regular_all + taken_all) + above_all
+  aside_worth : sum_by (λ p. p.1.job.value) aside.pairs ≤ times * (regular_all + taken_all) + above_all
   aside_worth = omega (
     arith,
     sum_le (λ (p : Interval × Over). p.1.job.value) (λ p. completed_in p.0 + above p) aside.pairs
         (λ p member. omega arith),
     sum_plus (λ p. completed_in p.0) above aside.pairs,
     aside.intervals completed_in,
-    completed_parts,
+    completed_times,
   )
 
   -- the rest is paid by its work
@@ -241,37 +264,38 @@ module _ (k : Fraction) (v w : ℕ) (processors : ℕ) (jobs : List Job) (ran : 
   )
 
   -- the parts, together
-  most : k.q * worth jobs s ≤ (k.p + k.q) * (regular_all + taken_all)
-      + (k.q * regular_all + (k.p * displaced_all + k.q * first_all) + k.q * above_all)
+  most : k.q * worth jobs s ≤ times * ((k.p + k.q) * (regular_all + taken_all))
+      + (k.q * regular_all + times * (k.p * displaced_all) + k.q * first_all + k.q * above_all)
   most =
       let values : sum_by (λ o. o.job.value) taken + unserved (λ o. o.job.value) + books.spare ≡ taken_all =
       omega (arith, both_parts (λ o. o.job.value), books.taken_sum) in
       let parts : k.q * (sum_by (earned s) books.regular + sum_by (λ o. o.job.value) taken
       + sum_by (earned s) books.lost
       + (sum_by (λ p. p.1.job.value) aside.pairs + sum_by (λ o. o.job.value) aside.rest))
-      ≤ (k.p + k.q) * (regular_all + (sum_by (λ o. o.job.value) taken + unserved (λ o. o.job.value) + books.spare))
-      + (k.q * regular_all + (k.p * displaced_all + k.q * first_all) + k.q * above_all) =
-      parts_most k.p k.q v w (sum_by (earned s) books.regular) (sum_by (λ o. o.job.value) taken)
+      ≤ times * ((k.p + k.q) * (regular_all + (sum_by (λ o. o.job.value) taken + unserved (λ o. o.job.value)
+      + books.spare)))
+      + (k.q * regular_all + times * (k.p * displaced_all) + k.q * first_all + k.q * above_all) =
+      parts_most times k.p k.q v w (sum_by (earned s) books.regular) (sum_by (λ o. o.job.value) taken)
       (unserved (λ o. o.job.value)) books.spare (sum_by (earned s) books.lost)
       (sum_by (λ p. p.1.job.value) aside.pairs) (sum_by (λ o. o.job.value) aside.rest)
       (sum_by (λ o. o.job.work) aside.rest) (sum_by length ran) (sum_by (λ o. o.had) taken) (unserved (λ o. o.had))
-      regular_all displaced_all first_all above_all books.some_work books.ratio usual_most lost_most fit
+      regular_all displaced_all first_all above_all some_times books.some_work books.ratio usual_most lost_most fit
       (subst (λ n. v * sum_by length ran ≤ w * (regular_all + displaced_all + books.spare) + v * n)
-      (both_parts (λ o. o.had)) books.ticks_paid) unserved_paid rest_dense
-      (subst (λ n. sum_by (λ p. p.1.job.value) aside.pairs ≤ (regular_all + n) + above_all) (sym values) aside_worth) in
+      (both_parts (λ o. o.had)) books.ticks_paid) unserved_paid served_paid rest_dense
+      (subst (λ n. sum_by (λ p. p.1.job.value) aside.pairs ≤ times * (regular_all + n) + above_all) (sym values)
+      aside_worth) in
       let worth_times : k.q * worth jobs s ≤ k.q * (sum_by (earned s) books.regular + sum_by (λ o. o.job.value) taken
       + sum_by (earned s) books.lost
       + (sum_by (λ p. p.1.job.value) aside.pairs + sum_by (λ o. o.job.value) aside.rest)) =
       mul-le-mul_left k.q worth_parts in
-      subst (λ n. k.q * worth jobs s ≤ (k.p + k.q) * (regular_all + n)
-      + (k.q * regular_all + (k.p * displaced_all + k.q * first_all) + k.q * above_all)) values
+      subst (λ n. k.q * worth jobs s ≤ times * ((k.p + k.q) * (regular_all + n))
+      + (k.q * regular_all + times * (k.p * displaced_all) + k.q * first_all + k.q * above_all)) values
       (omega (arith, worth_times, parts))
 
-  -- no schedule is worth more than the bound of what is completed
-  pub many_bound : IsWithin k (worth jobs s) (sum_by completed_in books.intervals)
-  many_bound = subst (IsWithin k (worth jobs s)) (sym completed_parts)
-      (within_twice k books.some_q books.ratio (worth jobs s) regular_all taken_all displaced_all first_all
+  -- no schedule is worth more than the bound of what is completed, so many times
+  pub many_bound : IsWithinTimes times k (worth jobs s) (sum_by completed_in books.intervals)
+  many_bound = subst (IsWithinTimes times k (worth jobs s)) (sym completed_parts)
+      (within_times k books.some_q books.ratio times some_times (worth jobs s) regular_all taken_all displaced_all first_all
       above_all most
-      (twice_sum k books.some_q books.ratio (λ (i : Interval). i.displaced) (λ i. i.first) (λ i. i.taken)
-      books.intervals
+      (twice_sum k books.some_q books.ratio (λ (i : Interval). i.displaced) (λ i. i.first) (λ i. i.taken) books.intervals
       books.displaced) little)

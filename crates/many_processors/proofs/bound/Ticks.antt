@@ -1,5 +1,5 @@
 -- Sums over the ticks of a schedule of several processors.
-use Rattle.std.proofs.Common.{◌≡◌, ℕ, suc, zero, ◌+◌, ◌-◌, ◌≤◌, ◌<◌, ◌⊎◌, inl, inr, List, [], ◌∷◌, take, refl, sym, ap}
+use Rattle.std.proofs.Common.{◌≡◌, ℕ, suc, zero, ◌+◌, ◌-◌, ◌*◌, ◌≤◌, ◌<◌, ◌⊎◌, inl, inr, List, [], ◌∷◌, take, refl, sym, ap}
 use Rattle.std.proofs.Common.{Bool, true, false, cond, arith, nat_le, nat_lt, ◌&&◌, sum_by, drop, length}
 use Rattle.std.proofs.Common.{le-leb, lt-ltb, ◌∙◌, ◌++◌}
 use Rattle.std.specs.List.{count_by}
@@ -33,6 +33,11 @@ module _ {Y : Type 0} where
       → total (λ τ y. w τ y + v τ y) t s ≡ total w t s + total v t s
   total_plus w v t [] = refl
   total_plus w v t (y ∷ s) = omega (arith, total_plus w v (suc t) s)
+
+  -- so many times as much at each tick
+  pub total_times : (n : ℕ) (w : ℕ → Y → ℕ) (t : ℕ) (s : List Y) → total (λ τ y. n * w τ y) t s ≡ n * total w t s
+  total_times n w t [] = omega arith
+  total_times n w t (y ∷ s) = omega (arith, total_times n w (suc t) s)
 
   -- nothing at each tick
   pub total_zero : (t : ℕ) (s : List Y) → total (λ τ y. 0) t s ≡ 0

@@ -329,7 +329,7 @@ module _ (processors : ℕ) (J : Instance) (valid : IsValid J) (some : 1 ≤ pro
       (enough J.jobs) (opening J.jobs) [] (opening_kept processors J) opening_gave (run_ends processors J valid some)
 
   -- a job by its number at the end of the run
-  job_there : (k : ℕ) (tasks : List Task) → IsNumberedFrom k tasks → (n_j : ℕ × JobFacts)
+  pub job_there : (k : ℕ) (tasks : List Task) → IsNumberedFrom k tasks → (n_j : ℕ × JobFacts)
       → IsMember n_j (enumerate_from k (jobs_of tasks))
       → (t : Task) × IsMember t tasks × (t.number ≡ n_j.0) × (t.job ≡ n_j.1)
   job_there k [] row n_j member = absurd member

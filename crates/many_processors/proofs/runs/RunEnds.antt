@@ -37,9 +37,8 @@ use Rattle.many_processors.specs.Run.{run_from, run, enough, is_end, event_of, p
 use Rattle.many_processors.specs.Sound.{Keeps}
 use Rattle.many_processors.proofs.steps.Seeing.{each_sees, below_numbers}
 use Rattle.many_processors.proofs.steps.Cases as cases
-use Rattle.many_processors.proofs.steps.Cases.{StepCase, step_case, open_case, IsQuiet, then_none, is_finished, is_run}
-use Rattle.many_processors.proofs.steps.Cases.{is_take, NoneDue}
-use Rattle.many_processors.proofs.books.Booked.{own_sum, value_of}
+use Rattle.many_processors.proofs.steps.Cases.{StepCase, step_case, open_case, IsQuiet, then_none, is_finished, is_run, is_take, NoneDue}
+use Rattle.many_processors.proofs.books.Booked.{own_sum, value_of, seen_value}
 use Rattle.many_processors.proofs.steps.Placing.{seen_member, seen_own, own_seen, off_seen, all_left, own_running}
 use Rattle.many_processors.proofs.steps.Stepping.{real, same_job}
 use Rattle.many_processors.proofs.steps.Turns.{which, running_job, all_quiet, of_tasks, step_kept, opening_kept}
@@ -65,32 +64,6 @@ module _ (processors : ℕ) (J : Instance) (valid : IsValid J) (some : 1 ≤ pro
 
   one_job : (p u : Placed) → IsMember p s.jobs → IsMember u s.jobs → p.task.number ≡ u.task.number → p ≡ u
   one_job = same_job processors J valid s keeps
-
-  -- the value of what a processor sees is that of its own
-  seen_value : (i : ℕ) → value_sum (privileged (seen_from i s)) ≡ own_sum i value_of s.jobs
-  seen_value i = sum_filter is_privileged (λ t. t.job.value) (map (seen_by i) s.jobs)
-      ∙ sum_map (seen_by i) (λ t. cond (is_privileged t) t.job.value 0) s.jobs
-      ∙ sum_same (λ p. cond (is_privileged (seen_by i p)) (seen_by i p).job.value 0)
-      (λ p. cond (is_own_of i p) (value_of p) 0) s.jobs (λ p member. same p (is_own_of i p) refl) where
-        same : (p : Placed) → (b : Bool) → is_own_of i p ≡ b
-            → cond (is_privileged (seen_by i p)) (seen_by i p).job.value 0 ≡ cond (is_own_of i p) (value_of p) 0
-        same p true e =
-            let both = and_parts (is_privileged p.task) (p.owner == i) e in
-            let seen_p : seen_by i p ≡ p.task = own_seen i p (eqb-true _ _ both.1) in
-            ap (λ (t : Task). cond (is_privileged t) t.job.value 0) seen_p
-            ∙ ap (λ b. cond b (value_of p) 0) both.0 ∙ sym (ap (λ b. cond b (value_of p) 0) e)
-        same p false e = ap (λ b. cond b (seen_by i p).job.value 0) (out (is_privileged (seen_by i p)) refl)
-            ∙ sym (ap (λ b. cond b (value_of p) 0) e) where
-              out : (b : Bool) → is_privileged (seen_by i p) ≡ b → is_privileged (seen_by i p) ≡ false
-              out false f = f
-              out true f =
-                  let own = seen_own i p f in
-                  never (sym e ∙ both_true (is_privileged p.task) (p.owner == i) (sym (ap is_privileged own.0) ∙ f)
-                  (eq-eqb _ _ own.1)) where
-                    both_true : (a b : Bool) → a ≡ true → b ≡ true → (a && b) ≡ true
-                    both_true true true e f = refl
-                    both_true true false e f = never f
-                    both_true false b e f = never e
 
   -- what is known of a move on processor i that isn't a completion
   abbrev Decided : ℕ → Move → Type 0
@@ -226,7 +199,7 @@ module _ (processors : ℕ) (J : Instance) (valid : IsValid J) (some : 1 ≤ pro
               (decided.0 y.0 y.1 (ap (λ (u : Task). u.role) y.2 ∙ runs_r)) s.clock _ is_w
               (ap latest_start z.2 ∙ now) J.rules.ratio
               (subst (λ (u : Task). IsHeavy J.rules.ratio u.job.value (own_sum i value_of s.jobs)) (sym z.2)
-              (subst (IsHeavy J.rules.ratio x.job.value) (seen_value i) heavy)) i_low least
+              (subst (IsHeavy J.rules.ratio x.job.value) (seen_value s i) heavy)) i_low least
               (λ p p_member e. goes_on J.rules.finishes p.task
               (some_left p p_member (passes is_privileged p.task Running true e refl)) (decided.0 p p_member e))
               decided.0)))
@@ -277,15 +250,14 @@ module _ (processors : ℕ) (J : Instance) (valid : IsValid J) (some : 1 ≤ pro
     is_seen = which processors J valid some J.rules s keeps q member
 
     here : q.view.privileged_value ≡ own_sum q.processor value_of s.jobs
-    here = ap (λ (o : Seen). o.view.privileged_value) is_seen.0 ∙ seen_value q.processor
+    here = ap (λ (o : Seen). o.view.privileged_value) is_seen.0 ∙ seen_value s q.processor
 
     by_least : (is_take m ≡ false)
         ⊎ Each (λ o. (is_free o ≡ false) × (q.view.privileged_value ≤ o.view.privileged_value)) all
         → (is_take m ≡ false)
         ⊎ ((j : ℕ) → j < processors → own_sum q.processor value_of s.jobs ≤ own_sum j value_of s.jobs)
     by_least (inl is) = inl is
-    by_least (inr least) = inr
-        (λ j less. omega (arith, (least (seen J.rules.version s j) (see j less)).1, here, seen_value j))
+    by_least (inr least) = inr (λ j less. omega (arith, (least (seen J.rules.version s j) (see j less)).1, here, seen_value s j))
 
   -- ---- a tick comes before the last deadline
 
