@@ -3,6 +3,7 @@ ghost use Rattle.std.specs.Prelude.{◌≡◌, ℕ, ◌≤◌, ◌*◌, ◌-◌,
 ghost use Rattle.dover_model.specs.Common.{Fraction, Instance, IsValid, IsHeavy, IsWithin, IsMember, Each, numbered};
 ghost use Rattle.dover_model.specs.JobFacts.{JobFacts};
 ghost use Rattle.dover_model.specs.Books.{Job, IsLeastDense};
+ghost use Rattle.dover_model.specs.Run as one_run;
 ghost use Rattle.many_processors.specs.Books.{AreBooks, completed_in};
 ghost use Rattle.many_processors.specs.Run.{completed_value, ran};
 ghost use Rattle.many_processors.specs.Schedules.{IsFor, worth};
@@ -17,8 +18,8 @@ ghost use Rattle.many_processors.specs.Sure.{worth_beside, IsCompleted};
 ///   one processor.
 /// - `more_processors`: with the factor β, no schedule of g times as many is worth more than g(β + k) and the greater of 1
 ///   and gk/(β-1), times what a run completes; by the root, no more than g(1+√k)² times that.
-/// - `lanes`: where jobs are dealt to lanes in whatever way, and each lane has a run on one processor of its own, no schedule
-///   of the jobs of all lanes on g processors is worth more than that, times what all lanes complete together.
+/// - `lanes`: where jobs are dealt to lanes in whatever way, and each lane has a run of its own by the rules of one processor,
+///   no schedule of the jobs of all lanes on g processors is worth more than that, times what all lanes complete together.
 /// - `one_job`: where no job is heavy against one, and so many times its value as there are processors is heavy against the
 ///   values of all other jobs whose windows have its latest start, together, it is completed.
 /// - `times_the_bound`: so none is worth more than the bound of g times what a run completes.
@@ -35,7 +36,7 @@ pub fn laws_of_bounds()
         → IsWithinTimes times J.rules.ratio (worth (numbered J) s) (completed_value processors J) }
     ensures lanes { (k : Fraction) (processors : ℕ) (lanes : List Instance) (s : LaneSchedule) → 1 ≤ processors
         → Each (λ J. IsValid J × (J.rules.ratio ≡ k)) lanes → Each (λ names. length names ≤ processors) s
-        → IsWithinTimes processors k (worth_of_lanes lanes s) (sum_by (completed_value 1) lanes) }
+        → IsWithinTimes processors k (worth_of_lanes lanes s) (sum_by one_run.completed_value lanes) }
     ensures one_job { (processors n : ℕ) (J : Instance) (j : JobFacts) → 1 ≤ processors → IsValid J
         → IsMember (n, j) (numbered J) → Each (λ i. IsHeavy J.rules.ratio i.value j.value → ⊥) J.jobs
         → IsHeavy J.rules.ratio (processors * j.value) (worth_beside J n (j.deadline - j.work))

@@ -3,7 +3,7 @@ use Rattle.std.proofs.Common.{◌≡◌, ℕ, suc, zero, ◌+◌, ◌≤◌, ◌
 use Rattle.std.proofs.Common.{sym}
 use Rattle.std.proofs.Common.{ap, ◌∙◌, subst, Bool, true, false, cond, arith, eqb, eqb-true, eq-eqb, ◌&&◌, ◌||◌, ◌==◌}
 use Rattle.std.proofs.Common.{Option, Some, None, find, filter, nat_lt}
-use Rattle.std.specs.Prelude.{filter_map}
+use Rattle.std.specs.Prelude.{filter_map, fold}
 use Rattle.std.specs.Bool.{then_some}
 use Rattle.std.specs.List.{list_any, list_all, cons_option}
 use Rattle.std.proofs.lemmas.Bool.{and_parts}
@@ -714,6 +714,21 @@ end_on single.Ticks = refl
 abbrev shown : List many.Step → List (ℕ × Event)
 shown steps = filter_map (λ step. placed_event_of step.move) steps
 
+-- the events without their processors
+bare_shown : (m : Move) (es : List (ℕ × Event))
+    → cons_option (many.event_of m) (map (λ p. p.1) es) ≡ map (λ p. p.1) (cons_option (placed_event_of m) es)
+bare_shown (Prints q e) es = refl
+bare_shown (Waits n) es = refl
+bare_shown Ticks es = refl
+
+bare : (steps : List many.Step) → filter_map (λ step. many.event_of step.move) steps ≡ map (λ p. p.1) (shown steps)
+bare [] = refl
+bare (x ∷ steps) = ap (λ es. cons_option (many.event_of x.move) es) (bare steps) ∙ bare_shown x.move (shown steps)
+
+bare_at_zero : (es : List Event) → map (λ p. p.1) (map at_zero es) ≡ es
+bare_at_zero [] = refl
+bare_at_zero (e ∷ es) = ap (λ more. e ∷ more) (bare_at_zero es)
+
 module _ (J : Instance) (valid : IsValid J) where
   runs_alike : (more : ℕ) (s : State) → Keeps 1 J s → FreshIsCalm J.rules.finishes s
       → HasEnd (run_from 1 J.rules more s)
@@ -775,3 +790,8 @@ module _ (J : Instance) (valid : IsValid J) where
         as_they_come : (ts : List Task) → tasks_of (map unplaced ts) ≡ ts
         as_they_come [] = refl
         as_they_come (t ∷ ts) = ap (λ us. t ∷ us) (as_they_come ts)
+
+  -- and is worth as much
+  pub one_value : many.completed_value 1 J ≡ one_run.completed_value J
+  one_value = ap (λ es. fold (λ value e. one_run.value_of_end e value) 0 es)
+      (bare (run 1 J) ∙ ap (λ (ps : List (ℕ × Event)). map (λ p. p.1) ps) one_prints ∙ bare_at_zero (one_run.printed J))

@@ -6,6 +6,8 @@ use Rattle.many_processors.proofs.bound.Dealing.{lanes_within}
 use Rattle.many_processors.proofs.books.RunBooks.{run_books, run_bound, run_bound_same}
 use Rattle.many_processors.proofs.runs.RunEnds.{run_ends}
 use Rattle.many_processors.proofs.runs.Sure.{heavy_completed}
+use Rattle.many_processors.proofs.runs.OneProcessor.{one_value}
+use Rattle.dover_model.specs.Run as one_run
 use Rattle.many_processors.specs.Run.{completed_value}
 use Rattle.many_processors.specs.Schedules.{IsFor, worth}
 use Rattle.dover_model.specs.Common.{numbered}
@@ -34,12 +36,13 @@ returns-clause-times_the_bound c processors times J s some some_times valid few 
 
 pub returns-clause-lanes : goal.returns-clause-lanes
 returns-clause-lanes c k processors lanes s some each few =
-    lanes_within processors k s few (completed_value 1) 0 lanes (λ J member part part_few.
+    lanes_within processors k s few one_run.completed_value 0 lanes (λ J member part part_few.
     let it = each J member in
     let whole : processors ≡ processors * 1 = omega arith in
-    subst (λ r. IsWithinTimes processors r (worth (numbered J) part) (completed_value 1 J)) it.1
+    subst (λ r. IsWithinTimes processors r (worth (numbered J) part) (one_run.completed_value J)) it.1
+    (subst (λ a. IsWithinTimes processors J.rules.ratio (worth (numbered J) part) a) (one_value J it.0)
     (run_bound processors 1 J part some (omega arith) it.0 (run_ends 1 J it.0 (omega arith))
-    (subst (λ n. IsFor n part) whole part_few)))
+    (subst (λ n. IsFor n part) whole part_few))))
 
 pub returns-clause-one_job : goal.returns-clause-one_job
 returns-clause-one_job c processors n J j some valid there light heavy =
