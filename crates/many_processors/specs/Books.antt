@@ -8,6 +8,7 @@ use Rattle.dover_model.specs.JobFacts.{JobFacts}
 use Rattle.dover_model.specs.Orders.{is_heavy}
 use Rattle.dover_model.specs.Sound.{IsMember, Each}
 use Rattle.dover_model.specs.Books.{Job, job_value, IsDense, IsPaid}
+use Rattle.many_processors.specs.Schedules.{ticks_given}
 
 -- d, and e besides, are paid by z: e is at most z, and what z is more pays for d
 abbrev pub IsPaidTwice : Fraction → ℕ → ℕ → ℕ → Type 0
@@ -66,7 +67,7 @@ IsBusyIn processors ran jobs τ = (processors ≤ length (given_at ran τ))
 pub record TakenIn (v w : ℕ) (o : Over) : Type 0 where
   pub at_most_work : o.had ≤ o.job.work
   pub reach : o.job.deadline + o.had ≤ o.at + o.job.work  -- it had no laxity when it took
-  pub had_paid : v * o.had ≤ w * o.job.value
+  pub work_paid : v * o.job.work ≤ w * o.job.value
 
 -- the interval lasts when the job is abandoned, and the job isn't heavy against what it completes
 abbrev pub is_light_in : Fraction → Over → Interval → Bool
@@ -111,4 +112,5 @@ pub record AreBooks (k : Fraction) (v w : ℕ) (processors : ℕ) (jobs : List J
   pub ticks_paid : v * sum_by length ran ≤ w * (sum_by (λ i. i.regular) intervals + sum_by (λ i. i.displaced) intervals
       + spare) + v * sum_by (λ o. o.had) taken
   pub taken_are : Each (TakenIn v w) taken
+  pub taken_had : Each (λ o. o.had ≤ ticks_given ran o.number o.job) taken
   pub gone_are : Each (GoneIn k v w processors intervals) gone

@@ -1,5 +1,5 @@
 -- Lanes: feeds that stand apart, each with a run on a processor of its own, beside schedules of all their jobs together.
-use Rattle.std.specs.Prelude.{ℕ, zero, suc, ◌+◌, List, [], ◌∷◌, map, filter, ◌==◌}
+use Rattle.std.specs.Prelude.{ℕ, suc, ◌+◌, List, [], ◌∷◌, map, filter, ◌==◌}
 use Rattle.dover_model.specs.Instance.{Instance}
 use Rattle.dover_model.specs.Schedules.{numbered}
 use Rattle.many_processors.specs.Schedules.{worth}

@@ -9,6 +9,7 @@ ghost use Rattle.many_processors.specs.Run.{completed_value, ran};
 ghost use Rattle.many_processors.specs.Schedules.{IsFor, worth};
 ghost use Rattle.many_processors.specs.MoreProcessors.{IsWithinTimes};
 ghost use Rattle.many_processors.specs.Lanes.{LaneSchedule, worth_of_lanes};
+ghost use Rattle.many_processors.specs.Observed.{observed};
 ghost use Rattle.many_processors.specs.Sure.{worth_beside, IsCompleted};
 
 /// - `over_books`: over any books of a run on so many processors, no schedule of some times as many, which may move jobs
@@ -22,6 +23,8 @@ ghost use Rattle.many_processors.specs.Sure.{worth_beside, IsCompleted};
 ///   no schedule of the jobs of all lanes on g processors is worth more than that, times what all lanes complete together.
 /// - `one_job`: where no job is heavy against one, and so many times its value as there are processors is heavy against the
 ///   values of all other jobs whose windows have its latest start, together, it is completed.
+/// - `observed_works`: where the ratio is at least 2, `more_processors` holds against the works as the run observed them
+///   too: a schedule may know which jobs finish early, and when.
 /// - `times_the_bound`: so none is worth more than the bound of g times what a run completes.
 pub fn laws_of_bounds()
     ensures over_books { (k : Fraction) (v w processors times : ℕ) (jobs : List Job) (ran s : List (List ℕ))
@@ -41,6 +44,10 @@ pub fn laws_of_bounds()
         → IsMember (n, j) (numbered J) → Each (λ i. IsHeavy J.rules.ratio i.value j.value → ⊥) J.jobs
         → IsHeavy J.rules.ratio (processors * j.value) (worth_beside J n (j.deadline - j.work))
         → IsCompleted processors J n }
+    ensures observed_works { (processors times : ℕ) (J : Instance) (s : List (List ℕ)) → 1 ≤ processors → 1 ≤ times
+        → IsValid J → 2 * J.rules.ratio.q ≤ J.rules.ratio.p → IsFor (times * processors) s
+        → IsWithinTimes times J.rules.ratio (worth (numbered (observed processors J)) s)
+        (completed_value processors J) }
     ensures times_the_bound { (processors times : ℕ) (J : Instance) (s : List (List ℕ)) → 1 ≤ processors → 1 ≤ times
         → IsValid J → IsFor (times * processors) s
         → IsWithin J.rules.ratio (worth (numbered J) s) (times * completed_value processors J) }

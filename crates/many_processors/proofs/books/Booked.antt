@@ -23,6 +23,7 @@ use Rattle.many_processors.specs.State.{Placed, State, seen_by, seen_from}
 use Rattle.many_processors.specs.Step.{is_own_of, numbers_from}
 use Rattle.many_processors.specs.Books.{Interval, Over, job_of, open_at, given_at, EndInOrder, TakenIn, IsPaidTwice}
 use Rattle.many_processors.specs.Books.{is_light_in}
+use Rattle.many_processors.specs.Schedules.{ticks_given}
 use Rattle.many_processors.proofs.steps.Seeing.{numbers_below}
 use Rattle.many_processors.proofs.steps.Placing.{seen_same, own_seen, seen_own}
 
@@ -141,7 +142,7 @@ pub record Booked (k : Fraction) (v w processors : ℕ) (ran : List (List ℕ)) 
   pub ticks_paid : v * sum_by length ran ≤ w * (sum_by (λ i. i.regular) closed + sum_by (λ i. i.displaced) closed
       + sum_by job_value lost + sum_by (λ q. (way q).regular + (way q).displaced) (numbers_from 0 processors))
       + (v * sum_by (λ o. o.had) taken + v * placed_sum (λ p. p.task.had) s.jobs)
-  pub taken_are : Each (λ o. TakenIn v w o × (o.at ≤ s.clock)) taken
+  pub taken_are : Each (λ o. TakenIn v w o × (o.at ≤ s.clock) × (o.had ≤ ticks_given ran o.number o.job)) taken
   pub gone_are : Each (GoneSoFar k v w processors closed way s.clock s.jobs) gone
 
 -- ---- who is excused

@@ -21,8 +21,7 @@ use Rattle.dover_model.proofs.bound.Booked.{IsModest}
 use Rattle.dover_model.proofs.bound.Calculus.{heavy_mono}
 use Rattle.dover_model.proofs.bound.Counting.{one}
 use Rattle.dover_model.proofs.lists.Tests.{never}
-use Rattle.dover_model.proofs.lists.Members.{map_member, sum_same, sum_map, sum_filter, member_filter, found}
-use Rattle.dover_model.proofs.lists.Members.{term_le_sum}
+use Rattle.dover_model.proofs.lists.Members.{map_member, member_filter, found, term_le_sum}
 use Rattle.dover_model.proofs.lists.Members.{each_cons}
 use Rattle.dover_model.proofs.lists.FirstOfTasks.{first_member}
 use Rattle.dover_model.proofs.steps.Roles.{passes, is_privileged_role, is_running_role, is_waiting_role}
@@ -35,6 +34,7 @@ use Rattle.many_processors.specs.Step.{after}
 use Rattle.many_processors.specs.Step.{completion, is_free}
 use Rattle.many_processors.specs.Sound.{Keeps}
 use Rattle.many_processors.specs.Books.{Over, job_of, TakenIn, IsPaidTwice}
+use Rattle.many_processors.specs.Schedules.{ticks_given}
 use Rattle.many_processors.proofs.bound.Chains.{twice_zero}
 use Rattle.many_processors.proofs.steps.Seeing.{seen_sees, whole, below_numbers}
 use Rattle.many_processors.proofs.steps.Cases as cases
@@ -56,7 +56,8 @@ use Rattle.many_processors.proofs.books.TickSteps.{ticks_booked}
 module _ (k : Fraction) (some_q : 1 ≤ k.q) (ratio : k.q ≤ k.p) (v w processors : ℕ) (some : 1
     ≤ processors) (J : Instance)
     (valid : IsValid J) (modest_jobs : Each (IsModest k v w) J.jobs) (ran : List (List ℕ)) (s : State)
-    (keeps : Keeps processors J s) (booked : Booked k v w processors ran s) where
+    (keeps : Keeps processors J s) (booked : Booked k v w processors ran s)
+    (had_given : Each (λ p. p.task.had ≤ ticks_given ran p.task.number p.task.job) s.jobs) where
   -- the jobs are modest
   modest : Each (λ p. IsModest k v w p.task.job) s.jobs
   modest p member = modest_jobs p.task.job (subst (IsMember p.task.job) keeps.jobs
@@ -148,8 +149,11 @@ module _ (k : Fraction) (some_q : 1 ≤ k.q) (ratio : k.q ≤ k.p) (v w processo
           (λ t. refl) (λ t. refl) booked.way (at_one x.owner shut booked.way) booked.fell end_calm
           booked.taken booked.gone over refl refl (asked e) τ was)
           (omega (arith, ap (λ n. v * n) (sum_by-cons (λ (o : Over). o.had) over booked.taken)))
-          (each_cons (λ o. TakenIn v w o × (o.at ≤ s.clock)) over booked.taken
-          (record { at_most_work = had_most s keeps.sound x x_member; reach = reach; had_paid = had_paid }, omega arith)
+          (each_cons (λ o. TakenIn v w o × (o.at ≤ s.clock) × (o.had ≤ ticks_given ran o.number o.job)) over booked.taken (
+            record { at_most_work = had_most s keeps.sound x x_member; reach = reach; work_paid = (modest x x_member).1 },
+            omega arith,
+            had_given x x_member,
+          )
           booked.taken_are)
       by_fell true e = close_booked k v w processors ran J s booked keeps one_job pressed x x_member x_on
           (modest x x_member).1 alone booked.regular booked.taken (number_and_job x ∷ booked.lost)
@@ -341,7 +345,8 @@ module _ (k : Fraction) (some_q : 1 ≤ k.q) (ratio : k.q ≤ k.p) (v w processo
 module _ (rules : Rules) (some_q : 1 ≤ rules.ratio.q) (above : rules.ratio.q ≤ rules.ratio.p) (v w processors : ℕ)
     (some : 1 ≤ processors) (J : Instance)
     (valid : IsValid J) (modest_jobs : Each (IsModest rules.ratio v w) J.jobs) (ran : List (List ℕ)) (s : State)
-    (keeps : Keeps processors J s) (booked : Booked rules.ratio v w processors ran s) where
+    (keeps : Keeps processors J s) (booked : Booked rules.ratio v w processors ran s)
+    (had_given : Each (λ p. p.task.had ≤ ticks_given ran p.task.number p.task.job) s.jobs) where
   -- a job that is abandoned
   abandoned_booked : (q : Seen) → IsMember q (all_seen processors rules.version s) → (m : Move)
       → (it : cases.Goes rules.ratio q m) → Each (λ o. completion o ≡ None) (all_seen processors rules.version s)
@@ -352,10 +357,8 @@ module _ (rules : Rules) (some_q : 1 ≤ rules.ratio.q) (above : rules.ratio.q �
       subst (λ (y : Move). Booked rules.ratio v w processors ran (after s y))
       (ap (λ n. Prints q.processor (Abandon q.view.clock n)) (ap (λ (t : Task). t.number) x.2) ∙ sym it.is)
       (gone_booked rules.ratio v w processors ran J s booked keeps
-      (one_job rules.ratio some_q above v w processors some J valid modest_jobs ran s keeps booked) true x.0 x.1
-      is_w now
-      (modest rules.ratio some_q above v w processors some J valid modest_jobs ran s keeps booked x.0 x.1).0
-      all_light) where
+      (one_job rules.ratio some_q above v w processors some J valid modest_jobs ran s keeps booked had_given) true x.0 x.1 is_w now
+      (modest rules.ratio some_q above v w processors some J valid modest_jobs ran s keeps booked had_given x.0 x.1).0 all_light) where
         is_seen : (q ≡ seen rules.version s q.processor) × (q.processor < processors)
         is_seen = which processors J valid some rules s keeps q member
 
@@ -443,11 +446,11 @@ module _ (rules : Rules) (some_q : 1 ≤ rules.ratio.q) (above : rules.ratio.q �
       (subst (λ (r : Seen). r.view.running ≡ Some t) i.0 is_served) in
       subst (λ (u : Task). Booked rules.ratio v w processors ran
       (after s (Prints q.processor (Complete q.view.clock u.number)))) x.2
-      (done_booked rules.ratio some_q above v w processors some J valid modest_jobs ran s keeps booked _ x.0 x.1
+      (done_booked rules.ratio some_q above v w processors some J valid modest_jobs ran s keeps booked had_given _ x.0 x.1
       (passes is_privileged x.0.task Running true x.3 refl))
   case_booked m (cases.Acted q member n acts going decided) =
       let i = which processors J valid some rules s keeps q member in
-      by_move m (acts_booked rules.ratio some_q above v w processors some J valid modest_jobs ran s keeps booked
+      by_move m (acts_booked rules.ratio some_q above v w processors some J valid modest_jobs ran s keeps booked had_given
       (all_left processors s rules.version keeps.sound keeps.placed going) q.processor i.1 rules refl m
       (subst (λ r. cases.Acts rules.ratio r false m) i.0 acts)) (not_tick q m acts) where
         not_tick : (q : Seen) → (m : Move) → cases.Acts rules.ratio q false m → m ≡ Ticks → ⊥
@@ -471,7 +474,7 @@ module _ (rules : Rules) (some_q : 1 ≤ rules.ratio.q) (above : rules.ratio.q �
       (value_sum (filter is_done (tasks_of s.jobs))) _
   case_booked m (cases.Rested quiet unended) = ticks_booked rules.ratio v w processors ran J rules s booked keeps
       (all_left processors s rules.version keeps.sound keeps.placed quiet.going)
-      (one_job rules.ratio some_q above v w processors some J valid modest_jobs ran s keeps booked) quiet
+      (one_job rules.ratio some_q above v w processors some J valid modest_jobs ran s keeps booked had_given) quiet
       (all_quiet processors J valid some rules s keeps quiet) some
 
   -- so does every step

@@ -1,6 +1,6 @@
 -- The competitive bound over any books of a run of several processors.
 use Rattle.std.proofs.Common.{◌≡◌, ℕ, suc, zero, ◌+◌, ◌-◌, ◌*◌, ◌≤◌, ◌⊎◌, inl, inr, List, [], ◌∷◌, ◌++◌, length, refl, sym}
-use Rattle.std.proofs.Common.{◌∙◌, ap, subst, Bool, true, false, cond, eqb, arith, sum_by, filter, leb-true}
+use Rattle.std.proofs.Common.{◌∙◌, ap, subst, Bool, true, false, cond, eqb, nat_le, arith, sum_by, filter, leb-true}
 use Rattle.std.proofs.Math.Nat.{mul-le-mul_left}
 use Rattle.std.proofs.lemmas.List.Sums.{sum_by-cons, sum_by-append}
 use Rattle.dover_model.specs.Fraction.{Fraction}
@@ -13,7 +13,7 @@ use Rattle.dover_model.proofs.lists.Tests.{never}
 use Rattle.dover_model.proofs.bound.Books.{scaled_sum}
 use Rattle.dover_model.proofs.bound.Calculus.{cancel, not_heavy, excess_zero, excess_add}
 use Rattle.dover_model.proofs.bound.Counting.{one}
-use Rattle.many_processors.specs.Schedules.{is_served, earned, worth, IsFor}
+use Rattle.many_processors.specs.Schedules.{ticks_given, worth, IsFor}
 use Rattle.many_processors.specs.Books.{Interval, Over, job_of, completed_in, IsBusyIn, TakenIn, GoneIn, is_light_in}
 use Rattle.many_processors.specs.Books.{AreBooks}
 use Rattle.many_processors.specs.MoreProcessors.{IsWithinTimes}
@@ -25,36 +25,30 @@ use Rattle.many_processors.proofs.bound.Summing.{works_fit}
 
 -- ---- numbers
 
--- so many times less, and more
-swap : (times x y : ℕ) → 1 ≤ times → x ≤ y → times * x + y ≤ times * y + x
-swap zero x y some low = absurd (omega (arith, some))
-swap (suc n) x y some low = let more : n * x ≤ n * y = mul-le-mul_left n low in omega (arith, more)
-
 -- what a schedule earns by jobs completed before a take (usual, of r), after one (served, of served + other), by those
 -- that a first take displaced (lost, of e; of which so much, spare, is completed), set aside (aside) and abandoned besides
--- (rest, of so much work), where they fit so many times the ticks
-parts_most : (times p q v w usual served other spare lost aside rest work ticks had other_had r d e y : ℕ) → 1 ≤ times
-    → 1 ≤ w → q ≤ p → usual ≤ r → lost ≤ e → work + had ≤ times * ticks
-    → v * ticks ≤ w * (r + d + spare) + v * (had + other_had) → v * other_had ≤ w * other → v * had ≤ w * served
+-- (rest, of so much work), where they fit so many times the ticks, and the served ones, which surely need so much (sure),
+-- pay for what they had and for themselves
+parts_most : (times p q v w usual served other spare lost aside rest work sure ticks had other_had r d e y : ℕ)
+    → 1 ≤ w → usual ≤ r → lost ≤ e → work + sure ≤ times * ticks
+    → v * ticks ≤ w * (r + d + spare) + v * (had + other_had) → v * other_had ≤ w * other
+    → q * (w * served) + times * p * (v * had) ≤ times * p * (w * served) + p * (v * sure)
     → q * w * rest ≤ p * v * work → aside ≤ times * (r + (served + other + spare)) + y
     → q * (usual + served + lost + (aside + rest))
     ≤ times * ((p + q) * (r + (served + other + spare))) + (q * r + times * (p * d) + q * e + q * y)
-parts_most times p q v w usual served other spare lost aside rest work ticks had other_had r d e y some_times some ratio low
-    few fit paid own had_paid dense little =
-    let fit_times : p * v * (work + had) ≤ p * v * (times * ticks) = mul-le-mul_left (p * v) fit in
+parts_most times p q v w usual served other spare lost aside rest work sure ticks had other_had r d e y some low few fit
+    paid own pays dense little =
+    let fit_times : p * v * (work + sure) ≤ p * v * (times * ticks) = mul-le-mul_left (p * v) fit in
     let paid_times : times * p * (v * ticks) ≤ times * p * (w * (r + d + spare) + v * (had + other_had)) =
     mul-le-mul_left (times * p) paid in
     let own_times : times * p * (v * other_had) ≤ times * p * (w * other) = mul-le-mul_left (times * p) own in
-    let swapped : p * (times * (v * had) + w * served) ≤ p * (times * (w * served) + v * had) =
-    mul-le-mul_left p (swap times (v * had) (w * served) some_times had_paid) in
-    let served_times : w * served * q ≤ w * served * p = mul-le-mul_left (w * served) ratio in
     let usual_times : w * q * usual ≤ w * q * r = mul-le-mul_left (w * q) low in
     let lost_times : w * q * lost ≤ w * q * e = mul-le-mul_left (w * q) few in
     let aside_times : w * q * aside ≤ w * q * (times * (r + (served + other + spare)) + y) =
     mul-le-mul_left (w * q) little in
     cancel w (q * (usual + served + lost + (aside + rest)))
     (times * ((p + q) * (r + (served + other + spare))) + (q * r + times * (p * d) + q * e + q * y)) some
-    (omega (arith, fit_times, paid_times, own_times, swapped, served_times, usual_times, lost_times, aside_times, dense))
+    (omega (arith, fit_times, paid_times, own_times, pays, usual_times, lost_times, aside_times, dense))
 
 -- what is above adds up
 pub excess_sum : (k : Fraction) → 1 ≤ k.q → k.q ≤ k.p → {X : Type 0} → (f g : X → ℕ) (xs : List X)
@@ -67,14 +61,54 @@ excess_sum k some_q ratio f g (x ∷ xs) all =
     subst (λ n. IsExcess k n (sum_by g (x ∷ xs))) (sym (sum_by-cons f x xs))
     (subst (λ n. IsExcess k (f x + sum_by f xs) n) (sym (sum_by-cons g x xs)) both)
 
+-- what a schedule earns by a job that needs so much
+abbrev pub earned_by : (Job → ℕ) → List (List ℕ) → Job → ℕ
+earned_by needs s n_j = cond (nat_le (needs n_j) (ticks_given s n_j.0 n_j.1)) n_j.1.value 0
+
+-- values that pay for more, added up
+sum_pays : (q m p v w : ℕ) {X : Type 0} (value had sure : X → ℕ) (xs : List X)
+    → Each (λ x. q * (w * value x) + m * (v * had x) ≤ m * (w * value x) + p * (v * sure x)) xs
+    → q * (w * sum_by value xs) + m * (v * sum_by had xs) ≤ m * (w * sum_by value xs) + p * (v * sum_by sure xs)
+sum_pays q m p v w value had sure [] all = omega arith
+sum_pays q m p v w value had sure (x ∷ xs) all =
+    subst (λ n. q * (w * n) + m * (v * sum_by had (x ∷ xs)) ≤ m * (w * n) + p * (v * sum_by sure (x ∷ xs)))
+    (sym (sum_by-cons value x xs))
+    (subst (λ n. q * (w * (value x + sum_by value xs)) + m * (v * n)
+    ≤ m * (w * (value x + sum_by value xs)) + p * (v * sum_by sure (x ∷ xs))) (sym (sum_by-cons had x xs))
+    (subst (λ n. q * (w * (value x + sum_by value xs)) + m * (v * (had x + sum_by had xs))
+    ≤ m * (w * (value x + sum_by value xs)) + p * (v * n)) (sym (sum_by-cons sure x xs))
+    (let rest : q * (w * sum_by value xs) + m * (v * sum_by had xs)
+    ≤ m * (w * sum_by value xs) + p * (v * sum_by sure xs) =
+    sum_pays q m p v w value had sure xs (λ y member. all y (inr member)) in
+    omega (arith, all x (inl refl), rest))))
+
+-- the value of a job that was completed after a take pays for the ticks that it had
+had_paid : (v w : ℕ) (o : Over) → TakenIn v w o → v * o.had ≤ w * o.job.value
+had_paid v w o it = let less : v * o.had ≤ v * o.job.work = mul-le-mul_left v it.at_most_work in
+    omega (arith, less, it.work_paid)
+
 -- ---- one schedule
 
 module _ (k : Fraction) (v w : ℕ) (processors : ℕ) (jobs : List Job) (ran : List (List ℕ))
     (books : AreBooks k v w processors jobs ran) (times : ℕ) (some_times : 1 ≤ times) (s : List (List ℕ))
-    (few : IsFor (times * processors) s) where
-  -- the schedule serves the job
+    (few : IsFor (times * processors) s) (needs : Job → ℕ)
+    (gone_needs : Each (λ o. o.job.work ≤ needs (job_of o)) books.gone)
+    (pays : Each (λ o. k.q * (w * o.job.value) + times * k.p * (v * o.had)
+    ≤ times * k.p * (w * o.job.value) + k.p * (v * (needs (job_of o) - (o.job.work - o.had)))) books.taken) where
+  -- the schedule gives the job what it needs
+  abbrev is_given : Job → Bool
+  is_given n_j = nat_le (needs n_j) (ticks_given s n_j.0 n_j.1)
+
+  -- what the schedule earns so
+  abbrev earns : Job → ℕ
+  earns = earned_by needs s
+
   abbrev serves : Over → Bool
-  serves o = is_served s (job_of o)
+  serves o = is_given (job_of o)
+
+  -- what a job surely needs before it is over
+  abbrev sure : Over → ℕ
+  sure o = needs (job_of o) - (o.job.work - o.had)
 
   -- the served ones of the jobs completed after a take, and of the abandoned ones
   abbrev taken : List Over
@@ -123,6 +157,12 @@ module _ (k : Fraction) (v w : ℕ) (processors : ℕ) (jobs : List Job) (ran : 
   is_gone : Each (λ o. (serves o ≡ true) × GoneIn k v w processors books.intervals o) gone
   is_gone o member = let it = member_filter serves books.gone o member in (it.1, books.gone_are o it.0)
 
+  gone_given : Each (λ o. o.job.work ≤ ticks_given s o.number o.job) gone
+  gone_given o member =
+      let it = member_filter serves books.gone o member in
+      let given : needs (job_of o) ≤ ticks_given s o.number o.job = leb-true _ _ it.1 in
+      omega (arith, given, gone_needs o it.0)
+
   -- what is set aside
   aside : SetAside k (each_times times books.intervals) gone
   aside = set_aside (λ (i : Interval). i.until) (λ (o : Over). o.job.deadline) (λ i o. is_light_in k o i)
@@ -130,17 +170,12 @@ module _ (k : Fraction) (v w : ℕ) (processors : ℕ) (jobs : List Job) (ran : 
       (in_order_of k (each_times times books.intervals) (times_order times books.intervals books.in_order))
 
   -- the others ask for no more ticks than the run gives
-  fit : sum_by (λ o. o.job.work) aside.rest + sum_by (λ o. o.had) taken ≤ times * sum_by length ran
-  fit = omega (
-    arith,
-    works_fit k times some_times processors books.intervals taken gone ran once books.covered busy
-        (λ o member. (is_gone o member).1.light) aside s few (λ o. o.job.work)
-        (λ o member. leb-true _ _ (is_taken o member).0) (λ o member. leb-true _ _ (is_gone o member).0)
-        (λ o member. ((is_taken o member).1.at_most_work, (is_taken o member).1.reach))
-        (λ o member. (is_gone o member).1.reach),
-    sum_le (λ (o : Over). o.had) (λ o. o.job.work - (o.job.work - o.had)) taken
-        (λ o member. let most : o.had ≤ o.job.work = (is_taken o member).1.at_most_work in omega (arith, most)),
-  )
+  fit : sum_by (λ o. o.job.work) aside.rest + sum_by sure taken ≤ times * sum_by length ran
+  fit = works_fit k times some_times processors books.intervals taken gone ran once books.covered busy
+      (λ o member. (is_gone o member).1.light) aside s few (λ o. needs (job_of o))
+      (λ o member. leb-true _ _ (is_taken o member).0) gone_given
+      (λ o member. ((is_taken o member).1.at_most_work, (is_taken o member).1.reach))
+      (λ o member. (is_gone o member).1.reach)
 
   -- ---- values
 
@@ -175,16 +210,17 @@ module _ (k : Fraction) (v w : ℕ) (processors : ℕ) (jobs : List Job) (ran : 
 
   -- their values pay for the ticks that they had
   unserved_paid : v * unserved (λ o. o.had) ≤ w * unserved (λ o. o.job.value)
-  unserved_paid = scaled_sum v w (λ (o : Over). cond (serves o) 0 o.had) (λ o. cond (serves o) 0 o.job.value)
-      books.taken
-      (λ o member. by_test (serves o) o.had o.job.value (books.taken_are o member).had_paid) where
+  unserved_paid = scaled_sum v w (λ (o : Over). cond (serves o) 0 o.had) (λ o. cond (serves o) 0 o.job.value) books.taken
+      (λ o member. by_test (serves o) o.had o.job.value (had_paid v w o (books.taken_are o member))) where
         by_test : (b : Bool) (had value : ℕ) → v * had ≤ w * value → v * cond b 0 had ≤ w * cond b 0 value
         by_test true had value paid = omega arith
         by_test false had value paid = paid
 
-  -- so do those of the served ones
-  served_paid : v * sum_by (λ o. o.had) taken ≤ w * sum_by (λ o. o.job.value) taken
-  served_paid = scaled_sum v w (λ (o : Over). o.had) (λ o. o.job.value) taken (λ o member. (is_taken o member).1.had_paid)
+  -- those of the served ones pay for more
+  served_pay : k.q * (w * sum_by (λ o. o.job.value) taken) + times * k.p * (v * sum_by (λ o. o.had) taken)
+      ≤ times * k.p * (w * sum_by (λ o. o.job.value) taken) + k.p * (v * sum_by sure taken)
+  served_pay = sum_pays k.q (times * k.p) k.p v w (λ (o : Over). o.job.value) (λ o. o.had) sure taken
+      (λ o member. pays o (member_filter serves books.taken o member).0)
 
   -- what a job that is set aside is worth above what its interval completes
   abbrev above : Interval × Over → ℕ
@@ -237,65 +273,115 @@ module _ (k : Fraction) (v w : ℕ) (processors : ℕ) (jobs : List Job) (ran : 
       (λ o member. (is_gone o (aside.rest_members o member)).1.dense)
 
   -- what the schedule is worth, in parts
-  worth_parts : worth jobs s ≤ sum_by (earned s) books.regular + sum_by (λ o. o.job.value) taken
-      + sum_by (earned s) books.lost + (sum_by (λ p. p.1.job.value) aside.pairs + sum_by (λ o. o.job.value) aside.rest)
+  worth_parts : sum_by earns jobs ≤ sum_by earns books.regular + sum_by (λ o. o.job.value) taken
+      + sum_by earns books.lost + (sum_by (λ p. p.1.job.value) aside.pairs + sum_by (λ o. o.job.value) aside.rest)
   worth_parts = omega (
     arith,
-    books.each_once (earned s),
+    books.each_once earns,
     sum_filter serves (λ (o : Over). o.job.value) books.taken,
     sum_filter serves (λ (o : Over). o.job.value) books.gone,
     aside.sums (λ o. o.job.value),
   )
 
   -- what it earns by jobs completed before a take is no more than they are worth
-  usual_most : sum_by (earned s) books.regular ≤ regular_all
+  usual_most : sum_by earns books.regular ≤ regular_all
   usual_most = omega (
     arith,
     books.regular_sum,
-    sum_le (earned s) job_value books.regular (λ n_j member. cond_le (is_served s n_j) n_j.1.value),
+    sum_le earns job_value books.regular (λ n_j member. cond_le (is_given n_j) n_j.1.value),
   )
 
   -- nor is what it earns by those that a first take displaced
-  lost_most : sum_by (earned s) books.lost ≤ first_all
+  lost_most : sum_by earns books.lost ≤ first_all
   lost_most = omega (
     arith,
     books.lost_sum,
-    sum_le (earned s) job_value books.lost (λ n_j member. cond_le (is_served s n_j) n_j.1.value),
+    sum_le earns job_value books.lost (λ n_j member. cond_le (is_given n_j) n_j.1.value),
   )
 
   -- the parts, together
-  most : k.q * worth jobs s ≤ times * ((k.p + k.q) * (regular_all + taken_all))
+  most : k.q * sum_by earns jobs ≤ times * ((k.p + k.q) * (regular_all + taken_all))
       + (k.q * regular_all + times * (k.p * displaced_all) + k.q * first_all + k.q * above_all)
   most =
       let values : sum_by (λ o. o.job.value) taken + unserved (λ o. o.job.value) + books.spare ≡ taken_all =
       omega (arith, both_parts (λ o. o.job.value), books.taken_sum) in
-      let parts : k.q * (sum_by (earned s) books.regular + sum_by (λ o. o.job.value) taken
-      + sum_by (earned s) books.lost
+      let parts : k.q * (sum_by earns books.regular + sum_by (λ o. o.job.value) taken
+      + sum_by earns books.lost
       + (sum_by (λ p. p.1.job.value) aside.pairs + sum_by (λ o. o.job.value) aside.rest))
       ≤ times * ((k.p + k.q) * (regular_all + (sum_by (λ o. o.job.value) taken + unserved (λ o. o.job.value)
       + books.spare)))
       + (k.q * regular_all + times * (k.p * displaced_all) + k.q * first_all + k.q * above_all) =
-      parts_most times k.p k.q v w (sum_by (earned s) books.regular) (sum_by (λ o. o.job.value) taken)
-      (unserved (λ o. o.job.value)) books.spare (sum_by (earned s) books.lost)
+      parts_most times k.p k.q v w (sum_by earns books.regular) (sum_by (λ o. o.job.value) taken)
+      (unserved (λ o. o.job.value)) books.spare (sum_by earns books.lost)
       (sum_by (λ p. p.1.job.value) aside.pairs) (sum_by (λ o. o.job.value) aside.rest)
-      (sum_by (λ o. o.job.work) aside.rest) (sum_by length ran) (sum_by (λ o. o.had) taken) (unserved (λ o. o.had))
-      regular_all displaced_all first_all above_all some_times books.some_work books.ratio usual_most lost_most fit
+      (sum_by (λ o. o.job.work) aside.rest) (sum_by sure taken) (sum_by length ran) (sum_by (λ o. o.had) taken)
+      (unserved (λ o. o.had))
+      regular_all displaced_all first_all above_all books.some_work usual_most lost_most fit
       (subst (λ n. v * sum_by length ran ≤ w * (regular_all + displaced_all + books.spare) + v * n)
-      (both_parts (λ o. o.had)) books.ticks_paid) unserved_paid served_paid rest_dense
+      (both_parts (λ o. o.had)) books.ticks_paid) unserved_paid served_pay rest_dense
       (subst (λ n. sum_by (λ p. p.1.job.value) aside.pairs ≤ times * (regular_all + n) + above_all) (sym values)
       aside_worth) in
-      let worth_times : k.q * worth jobs s ≤ k.q * (sum_by (earned s) books.regular + sum_by (λ o. o.job.value) taken
-      + sum_by (earned s) books.lost
+      let worth_times : k.q * sum_by earns jobs ≤ k.q * (sum_by earns books.regular + sum_by (λ o. o.job.value) taken
+      + sum_by earns books.lost
       + (sum_by (λ p. p.1.job.value) aside.pairs + sum_by (λ o. o.job.value) aside.rest)) =
       mul-le-mul_left k.q worth_parts in
-      subst (λ n. k.q * worth jobs s ≤ times * ((k.p + k.q) * (regular_all + n))
+      subst (λ n. k.q * sum_by earns jobs ≤ times * ((k.p + k.q) * (regular_all + n))
       + (k.q * regular_all + times * (k.p * displaced_all) + k.q * first_all + k.q * above_all)) values
       (omega (arith, worth_times, parts))
 
-  -- no schedule is worth more than the bound of what is completed, so many times
-  pub many_bound : IsWithinTimes times k (worth jobs s) (sum_by completed_in books.intervals)
-  many_bound = subst (IsWithinTimes times k (worth jobs s)) (sym completed_parts)
-      (within_times k books.some_q books.ratio times some_times (worth jobs s) regular_all taken_all displaced_all first_all
+  -- it earns no more than the bound of what is completed, so many times
+  pub needs_bound : IsWithinTimes times k (sum_by earns jobs) (sum_by completed_in books.intervals)
+  needs_bound = subst (IsWithinTimes times k (sum_by earns jobs)) (sym completed_parts)
+      (within_times k books.some_q books.ratio times some_times (sum_by earns jobs) regular_all taken_all displaced_all first_all
       above_all most
       (twice_sum k books.some_q books.ratio (λ (i : Interval). i.displaced) (λ i. i.first) (λ i. i.taken) books.intervals
       books.displaced) little)
+
+-- ---- what a job needs
+
+-- where a job that is completed after a take needs all its work, its value pays for that
+pays_work : (times p q v w value work had : ℕ) → 1 ≤ times → q ≤ p → had ≤ work → v * work ≤ w * value
+    → q * (w * value) + times * p * (v * had) ≤ times * p * (w * value) + p * (v * (work - (work - had)))
+pays_work zero p q v w value work had some ratio most paid = absurd (omega (arith, some))
+pays_work (suc n) p q v w value work had some ratio most paid =
+    let same : work - (work - had) ≡ had = omega (arith, most) in
+    let less : v * had ≤ v * work = mul-le-mul_left v most in
+    let all : n * p * (v * had) ≤ n * p * (w * value) = mul-le-mul_left (n * p) (omega (arith, less, paid)) in
+    let own : (w * value) * q ≤ (w * value) * p = mul-le-mul_left (w * value) ratio in
+    subst (λ x. q * (w * value) + suc n * p * (v * had) ≤ suc n * p * (w * value) + p * (v * x)) (sym same)
+    (omega (arith, all, own))
+
+-- so it does where it needs what it had, if the ratio is at least 2
+pays_had : (times p q v w value work had needs : ℕ) → 1 ≤ times → 2 * q ≤ p → had ≤ work → had ≤ needs
+    → v * work ≤ w * value
+    → q * (w * value) + times * p * (v * had) ≤ times * p * (w * value) + p * (v * (needs - (work - had)))
+pays_had zero p q v w value work had needs some double most enough paid = absurd (omega (arith, some))
+pays_had (suc n) p q v w value work had needs some double most enough paid = by_sure (needs - (work - had))
+    (omega (arith, most, enough)) where
+      by_sure : (sure : ℕ) → 2 * had ≤ work + 2 * sure
+          → q * (w * value) + suc n * p * (v * had) ≤ suc n * p * (w * value) + p * (v * sure)
+      by_sure sure half =
+          let less : v * had ≤ v * work = mul-le-mul_left v most in
+          let all : n * p * (v * had) ≤ n * p * (w * value) = mul-le-mul_left (n * p) (omega (arith, less, paid)) in
+          let own : (w * value) * (2 * q) ≤ (w * value) * p = mul-le-mul_left (w * value) double in
+          let halves : p * v * (2 * had) ≤ p * v * (work + 2 * sure) = mul-le-mul_left (p * v) half in
+          let works : p * (v * work) ≤ p * (w * value) = mul-le-mul_left p paid in
+          omega (arith, all, own, halves, works)
+
+module _ (k : Fraction) (v w : ℕ) (processors : ℕ) (jobs : List Job) (ran : List (List ℕ))
+    (books : AreBooks k v w processors jobs ran) (times : ℕ) (some_times : 1 ≤ times) (s : List (List ℕ))
+    (few : IsFor (times * processors) s) where
+  -- no schedule is worth more than the bound of what is completed, so many times
+  pub many_bound : IsWithinTimes times k (worth jobs s) (sum_by completed_in books.intervals)
+  many_bound = needs_bound k v w processors jobs ran books times some_times s few (λ n_j. n_j.1.work)
+      (λ o member. omega arith) (λ o member. let it = books.taken_are o member in
+      pays_work times k.p k.q v w o.job.value o.job.work o.had some_times books.ratio it.at_most_work it.work_paid)
+
+  -- nor is one where each job needs what it had, if the ratio is at least 2
+  pub had_bound : 2 * k.q ≤ k.p → (needs : Job → ℕ) → Each (λ o. o.job.work ≤ needs (job_of o)) books.gone
+      → Each (λ o. o.had ≤ needs (job_of o)) books.taken
+      → IsWithinTimes times k (sum_by (earned_by needs s) jobs) (sum_by completed_in books.intervals)
+  had_bound double needs gone_needs taken_needs = needs_bound k v w processors jobs ran books times some_times s few needs
+      gone_needs (λ o member. let it = books.taken_are o member in
+      pays_had times k.p k.q v w o.job.value o.job.work o.had (needs (job_of o)) some_times double it.at_most_work
+      (taken_needs o member) it.work_paid)

@@ -1,5 +1,5 @@
 -- What lanes complete together, and what a schedule of all their jobs is worth.
-use Rattle.std.proofs.Common.{◌≡◌, ℕ, suc, zero, ◌+◌, ◌*◌, ◌≤◌, inl, inr, List, [], ◌∷◌, length, refl, sym, subst}
+use Rattle.std.proofs.Common.{◌≡◌, ℕ, suc, ◌+◌, ◌*◌, ◌≤◌, inl, inr, List, [], ◌∷◌, length, refl, sym, subst}
 use Rattle.std.proofs.Common.{Bool, true, false, cond, arith, Option, Some, None, sum_by, map, filter, eqb}
 use Rattle.std.proofs.lemmas.List.Sums.{sum_by-cons}
 use Rattle.dover_model.specs.declared.factors.Factor.{Factor}

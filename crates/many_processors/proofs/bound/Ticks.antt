@@ -147,6 +147,19 @@ given_behind (ms ∷ ran) zero low = absurd (omega (arith, low))
 given_behind (ms ∷ ran) (suc τ) low = given_behind ran τ (omega (arith, low))
 
 module _ {Y : Type 0} (p : Y → Bool) (y : Y) where
+  -- one tick more takes nothing away
+  pub given_more : (s : List Y) (r d : ℕ) → given p r d s ≤ given p r d (s ++ (y ∷ []))
+  given_more [] r d = omega (arith, given_nil p r d)
+  given_more (x ∷ s) zero (suc d) = omega (
+    arith,
+    sum_by-cons (λ z. cond (p z) 1 0) x (take d (s ++ (y ∷ []))),
+    sum_by-cons (λ z. cond (p z) 1 0) x (take d s),
+    given_more s 0 d,
+  )
+  given_more (x ∷ s) (suc r) (suc d) = given_more s r d
+  given_more (x ∷ s) zero zero = omega arith
+  given_more (x ∷ s) (suc r) zero = omega arith
+
   -- a tick that doesn't count
   pub given_miss : p y ≡ false → (s : List Y) (r d : ℕ) → given p r d (s ++ (y ∷ [])) ≡ given p r d s
   given_miss out [] zero (suc d) = sum_by-cons (λ z. cond (p z) 1 0) y (take d [])

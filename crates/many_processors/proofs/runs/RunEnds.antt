@@ -1,10 +1,9 @@
 -- Every run of a valid instance on some processors ends, within the fuel of `run`, and prints few steps.
 use Rattle.std.proofs.Common.{◌≡◌, ℕ, suc, zero, ◌+◌, ◌-◌, ◌*◌, ◌≤◌, ◌<◌, ◌⊎◌, inl, inr, List, [], length, map}
-use Rattle.std.proofs.Common.{refl, sym, ap, ◌∙◌, subst, Bool, true, false, cond, ◌||◌, ◌&&◌, ◌==◌, arith, Some, None}
-use Rattle.std.proofs.Common.{eqb-true, eq-eqb, nat_lt, Option, ◌∷◌}
+use Rattle.std.proofs.Common.{refl, sym, ap, ◌∙◌, subst, Bool, true, false, ◌||◌, arith, Some, None}
+use Rattle.std.proofs.Common.{nat_lt, Option, ◌∷◌}
 use Rattle.std.specs.Prelude.{filter_map}
 use Rattle.std.specs.List.{AllByRecursion, list_any, list_all, cons_option}
-use Rattle.std.proofs.lemmas.Bool.{and_parts}
 use Rattle.dover_model.specs.declared.events.Event.{Event}
 use Rattle.dover_model.specs.declared.events.Event.TheVariants.{Run, Preempt, Take, Complete, Abandon, End, Release}
 use Rattle.dover_model.specs.declared.events.Task.{Task}
@@ -12,12 +11,12 @@ use Rattle.dover_model.specs.declared.events.Role.{Role}
 use Rattle.dover_model.specs.declared.events.Role.TheVariants.{Coming, Fresh, Waiting, Held, Running, Done, Gone}
 use Rattle.dover_model.specs.Finishes.{is_due}
 use Rattle.dover_model.specs.Common.{Rules, Instance, IsValid, IsJob, last_deadline, is_over, is_privileged, left}
-use Rattle.dover_model.specs.Common.{is_ready_behind, latest_start, IsMember, Each, value_sum, privileged}
+use Rattle.dover_model.specs.Common.{is_ready_behind, latest_start, IsMember, Each}
 use Rattle.dover_model.specs.Common.{weight, weight_in, to_come, IsHeavy, is_complete}
 use Rattle.dover_model.specs.Step as single
 use Rattle.dover_model.proofs.finishes.Readiness.{none_due}
 use Rattle.dover_model.proofs.lists.Tests.{never}
-use Rattle.dover_model.proofs.lists.Members.{map_member, sum_map, sum_same, sum_filter, on_map, not_all}
+use Rattle.dover_model.proofs.lists.Members.{map_member, sum_map, on_map, not_all}
 use Rattle.dover_model.proofs.runs.Ending.{sum_each}
 use Rattle.dover_model.proofs.runs.Potential.{steps_scale, one_most, weight_of}
 use Rattle.dover_model.proofs.steps.Deeds.{Deed, Completed, Resumed, Started, Began, Preempted, Stayed, Arrived}
@@ -29,8 +28,7 @@ use Rattle.dover_model.proofs.valid.Dues.{dues_most}
 use Rattle.dover_model.proofs.valid.JobLimits.{job_limits}
 use Rattle.many_processors.specs.Step.{open_step, is_free}
 use Rattle.many_processors.specs.State.{Placed, State, tasks_of, seen_by, seen_from, opening, unplaced}
-use Rattle.many_processors.specs.Step.{Move, Prints, Waits, Ticks, on, Seen, seen, all_seen, is_own_of, numbers_from}
-use Rattle.many_processors.specs.Step.{after}
+use Rattle.many_processors.specs.Step.{Move, Prints, Waits, Ticks, on, Seen, seen, all_seen, numbers_from, after}
 use Rattle.many_processors.specs.Step.{step, completion}
 use Rattle.many_processors.specs.Run as many
 use Rattle.many_processors.specs.Run.{run_from, run, enough, is_end, event_of, printed, HasEnd}
@@ -39,7 +37,7 @@ use Rattle.many_processors.proofs.steps.Seeing.{each_sees, below_numbers}
 use Rattle.many_processors.proofs.steps.Cases as cases
 use Rattle.many_processors.proofs.steps.Cases.{StepCase, step_case, open_case, IsQuiet, then_none, is_finished, is_run, is_take, NoneDue}
 use Rattle.many_processors.proofs.books.Booked.{own_sum, value_of, seen_value}
-use Rattle.many_processors.proofs.steps.Placing.{seen_member, seen_own, own_seen, off_seen, all_left, own_running}
+use Rattle.many_processors.proofs.steps.Placing.{seen_member, seen_own, off_seen, all_left, own_running}
 use Rattle.many_processors.proofs.steps.Stepping.{real, same_job}
 use Rattle.many_processors.proofs.steps.Turns.{which, running_job, all_quiet, of_tasks, step_kept, opening_kept}
 use Rattle.many_processors.proofs.runs.EachStep.{no_completion, tick_quiet, open_goes_on}

@@ -1,9 +1,9 @@
 -- A job that is heavy against what can hold the processors, and against which none is heavy, is completed.
-use Rattle.std.proofs.Common.{◌≡◌, ℕ, suc, zero, ◌+◌, ◌-◌, ◌*◌, ◌≤◌, ◌<◌, ◌⊎◌, inl, inr, List, [], ◌∷◌, map, refl, sym, ap}
+use Rattle.std.proofs.Common.{◌≡◌, ℕ, suc, zero, ◌+◌, ◌-◌, ◌*◌, ◌≤◌, ◌<◌, ◌⊎◌, inl, inr, List, [], ◌∷◌, refl, sym, ap}
 use Rattle.std.proofs.Common.{◌∙◌, subst, Bool, true, false, cond, arith, eqb, eqb-true, sum_by, nat_le, nat_lt, ◌&&◌, ◌==◌}
 use Rattle.std.proofs.Common.{not, le-leb, lt-ltb, None, Some, Option, filter}
-use Rattle.std.specs.List.{enumerate_from, list_all}
-use Rattle.std.proofs.lemmas.Bool.{cases_lt, and_parts}
+use Rattle.std.specs.List.{enumerate_from}
+use Rattle.std.proofs.lemmas.Bool.{cases_lt}
 use Rattle.std.proofs.lemmas.Nat.{mul-le}
 use Rattle.std.proofs.Math.Nat.{mul-le-mul_left}
 use Rattle.std.proofs.lemmas.List.Sums.{sum_by-cons}
@@ -15,10 +15,9 @@ use Rattle.dover_model.specs.declared.factors.Factor.{Factor}
 use Rattle.dover_model.specs.JobFacts.{JobFacts}
 use Rattle.dover_model.specs.Underload as underload
 use Rattle.dover_model.specs.Underload.{abandons}
-use Rattle.dover_model.specs.Books.{Job}
 use Rattle.dover_model.specs.Common.{Fraction, Instance, IsValid, IsHeavy, IsExcessBy, IsExcess, is_privileged, is_running, is_done, is_over}
 use Rattle.dover_model.specs.Common.{is_waiting, is_at_latest_start, starts_before, latest_start, left, IsMember, Each, numbered}
-use Rattle.dover_model.specs.Common.{to_come, jobs_of, value_sum, privileged, FitsRole}
+use Rattle.dover_model.specs.Common.{to_come, value_sum}
 use Rattle.dover_model.specs.Step as single
 use Rattle.dover_model.proofs.bound.Calculus.{HeavyBy, heavy_mono, heavy_more, not_heavy, factor_over, root_excess}
 use Rattle.dover_model.proofs.bound.Counting.{one}
@@ -33,7 +32,7 @@ use Rattle.dover_model.proofs.steps.Kept.{come_coming}
 use Rattle.dover_model.proofs.steps.Roles.{passes, is_over_role, is_waiting_role}
 use Rattle.dover_model.proofs.valid.ValidParts.{valid_parts}
 use Rattle.dover_model.proofs.valid.JobLimits.{ratio_limits}
-use Rattle.many_processors.specs.State.{Placed, State, tasks_of, seen_by, seen_from, opening, unplaced}
+use Rattle.many_processors.specs.State.{Placed, State, tasks_of, seen_from, opening, unplaced}
 use Rattle.many_processors.specs.Step.{Move, Prints, Waits, Ticks, on, Seen, seen, all_seen, numbers_from, step, after}
 use Rattle.many_processors.specs.Step.{completion, is_free, is_own_of, placed_after, placed_on, in_role, ticked}
 use Rattle.many_processors.specs.Run.{run, enough}

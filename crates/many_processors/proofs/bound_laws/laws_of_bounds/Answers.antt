@@ -3,7 +3,7 @@ use Rattle.std.proofs.Common.{◌≡◌, ◌*◌, subst, arith}
 use Rattle.many_processors.specs.MoreProcessors.{IsWithinTimes}
 use Rattle.many_processors.proofs.bound.Chains.{times_bound}
 use Rattle.many_processors.proofs.bound.Dealing.{lanes_within}
-use Rattle.many_processors.proofs.books.RunBooks.{run_books, run_bound, run_bound_same}
+use Rattle.many_processors.proofs.books.RunBooks.{run_books, run_bound, run_bound_same, run_observed}
 use Rattle.many_processors.proofs.runs.RunEnds.{run_ends}
 use Rattle.many_processors.proofs.runs.Sure.{heavy_completed}
 use Rattle.many_processors.proofs.runs.OneProcessor.{one_value}
@@ -47,3 +47,7 @@ returns-clause-lanes c k processors lanes s some each few =
 pub returns-clause-one_job : goal.returns-clause-one_job
 returns-clause-one_job c processors n J j some valid there light heavy =
     heavy_completed processors J valid some n j there light heavy
+
+pub returns-clause-observed_works : goal.returns-clause-observed_works
+returns-clause-observed_works c processors times J s some some_times valid double few =
+    run_observed times processors J s some_times some valid double (run_ends processors J valid some) few
