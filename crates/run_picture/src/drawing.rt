@@ -82,12 +82,7 @@ pub fn grouped_picture(
 }
 
 /// What the steps of a run tell of its jobs, which are of these groups.
-fn jobs_of(
-    alloc: Global,
-    k: Ratio,
-    run: &[PackedEvent],
-    of: &[usize],
-) -> Result<Vec<Seen>, Memory>
+fn jobs_of(alloc: Global, k: Ratio, run: &[PackedEvent], of: &[usize]) -> Result<Vec<Seen>, Memory>
     requires { (J : Instance) × IsRunOf k run.now J }
 {
     let worths = weights(alloc, k, run)?;

@@ -138,7 +138,13 @@ fn put_event(
         Event::Abandon { at, number } => {
             put_closes(text, at, number)?;
             put_text(text, b",\"args\":{\"fate\":\"abandon\"}}\n")?;
-            put_weighed(text, b"abandon", at, number, &[tally.job(number).value, worth])?;
+            put_weighed(
+                text,
+                b"abandon",
+                at,
+                number,
+                &[tally.job(number).value, worth],
+            )?;
             put_sums(text, at, tally)
         }
         Event::End { .. } => Ok(()),

@@ -34,7 +34,10 @@ fn put_label(sheet: &mut Sheet, y: u64, weighs: bool, job: &Seen) -> Result<(), 
     let named = has_number(sheet.scale, job);
     if named {
         let x = sheet.scale.x_at(job.release) + 2;
-        sheet.put(b"<text x='@' y='@'>@</text>\n", &[x, y, u64::from(job.number)])?;
+        sheet.put(
+            b"<text x='@' y='@'>@</text>\n",
+            &[x, y, u64::from(job.number)],
+        )?;
     }
     if !has_cross(sheet.scale, job) {
         return Ok(());

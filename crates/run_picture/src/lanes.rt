@@ -22,7 +22,12 @@ pub fn shown(scale: Scale, seen: &[Seen]) -> usize {
 
 impl Lanes {
     /// Puts the jobs that are shown into rows, those of so many groups one below the other.
-    pub fn new(alloc: Global, scale: Scale, groups: usize, mut jobs: Vec<Seen>) -> Result<Lanes, Memory> {
+    pub fn new(
+        alloc: Global,
+        scale: Scale,
+        groups: usize,
+        mut jobs: Vec<Seen>,
+    ) -> Result<Lanes, Memory> {
         let mut tops = Vec::new(alloc);
         let mut first = 0u64;
         for group in 0..groups {

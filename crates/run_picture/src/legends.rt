@@ -73,9 +73,7 @@ fn put_schedule_lanes_legend(sheet: &mut Sheet) -> Result<(), Memory> {
         <text class='s' x='734' y='44'>the same, abandoned</text>\n\
         <text class='s' x='874' y='44'>started, not running</text>\n",
     )?;
-    sheet.put_text(
-        b"<text class='s' x='990' y='44'>X abandoned: -value</text>\n",
-    )
+    sheet.put_text(b"<text class='s' x='990' y='44'>X abandoned: -value</text>\n")
 }
 
 /// Appends the legend of the lanes, by what is drawn.

@@ -7,9 +7,17 @@ pub returns-in_default-clause-puts : goal.returns-in_default-clause-puts
 returns-in_default-clause-puts g c = rw c.requires.empty (passes_nothing _ [])
 
 pub returns-in-Ok-put_lines-clause-puts : goal.returns-in-Ok-put_lines-clause-puts
-returns-in-Ok-put_lines-clause-puts g c = (_, refl, subst (Passes _ _ [] _) c.in-Ok.ensures
-    (rw c.requires.empty at c.in-Ok-put_lines.ensures.text.all))
+returns-in-Ok-put_lines-clause-puts g c = (
+  _,
+  refl,
+  subst (Passes _ _ [] _) c.in-Ok.ensures
+      (rw c.requires.empty at c.in-Ok-put_lines.ensures.text.all),
+)
 
 pub returns-clause-puts : goal.returns-clause-puts
-returns-clause-puts g c = (_, refl, subst (CutsShort _ _ []) c.in-Ok.ensures
-    (rw c.requires.empty at c.in-Err.ensures.text.part))
+returns-clause-puts g c = (
+  _,
+  refl,
+  subst (CutsShort _ _ []) c.in-Ok.ensures
+      (rw c.requires.empty at c.in-Err.ensures.text.part),
+)
