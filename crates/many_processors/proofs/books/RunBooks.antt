@@ -1,5 +1,5 @@
 -- The books of a run that ends, and its value against that of every schedule.
-use Rattle.std.proofs.Common.{◌≡◌, ℕ, ◌+◌, ◌*◌, ◌≤◌, ◌<◌, ◌⊎◌, inl, inr, List, [], ◌++◌, length, map}
+use Rattle.std.proofs.Common.{◌≡◌, ℕ, ◌+◌, ◌-◌, ◌*◌, ◌≤◌, ◌<◌, ◌⊎◌, inl, inr, List, [], ◌++◌, length, map}
 use Rattle.std.proofs.Common.{refl, sym, ap, ◌∙◌, subst, Bool, true, false, cond, arith, sum_by, nat_le, nat_lt}
 use Rattle.std.proofs.Common.{◌&&◌, ◌==◌, filter, eqb, eq-eqb, ne_eqb}
 use Rattle.std.specs.List.{list_all, enumerate_from}
@@ -325,17 +325,20 @@ module _ (v w processors : ℕ) (some : 1 ≤ processors) (J : Instance) (valid 
           (sym (needs_is p member)))
           ∙ sym (numbered_sum (earned_by needs schedule))
 
-      observed_bound : 2 * J.rules.ratio.q ≤ J.rules.ratio.p → (times : ℕ) → 1 ≤ times → (schedule : List (List ℕ))
-          → IsFor (times * processors) schedule
-          → IsWithinTimes times J.rules.ratio (worth (enumerate_from 0 (map observing (tasks_of s.jobs))) schedule)
+      observed_bound : (extra times : ℕ) → 1 ≤ times → (schedule : List (List ℕ)) → IsFor (times * processors) schedule
+          → (2 * J.rules.ratio.q - J.rules.ratio.p) * value_sum (filter is_done (tasks_of s.jobs))
+          ≤ 2 * J.rules.ratio.q * extra
+          → IsWithinTimes times J.rules.ratio
+          (worth (enumerate_from 0 (map observing (tasks_of s.jobs))) schedule - extra)
           (value_sum (filter is_done (tasks_of s.jobs)))
       unfolding are_books
-      observed_bound double times some_times schedule few =
-          subst (λ c. IsWithinTimes times J.rules.ratio c (value_sum (filter is_done (tasks_of s.jobs))))
+      observed_bound extra times some_times schedule few much =
+          subst (λ c. IsWithinTimes times J.rules.ratio (c - extra) (value_sum (filter is_done (tasks_of s.jobs))))
           (sym (observed_worth schedule))
-          (subst (IsWithinTimes times J.rules.ratio (sum_by (earned_by needs schedule) (numbered J))) completed
-          (had_bound J.rules.ratio v w processors (numbered J) ran are_books times some_times schedule few double needs
-          gone_needs taken_needs))
+          (subst (IsWithinTimes times J.rules.ratio (sum_by (earned_by needs schedule) (numbered J) - extra)) completed
+          (had_bound J.rules.ratio v w processors (numbered J) ran are_books times some_times schedule few needs
+          gone_needs taken_needs extra
+          (subst (λ c. (2 * J.rules.ratio.q - J.rules.ratio.p) * c ≤ 2 * J.rules.ratio.q * extra) (sym completed) much)))
 
   -- ---- the opening
 
@@ -406,18 +409,20 @@ module _ (v w processors : ℕ) (some : 1 ≤ processors) (J : Instance) (valid 
       (ended_bound out.last out.ran out.keeps out.holds.0 out.over some_work times some_times schedule few)
 
   -- so it is against the works as it observed them
-  observed_by : 1 ≤ w → HasEnd (run processors J) → 2 * J.rules.ratio.q ≤ J.rules.ratio.p → (times : ℕ) → 1 ≤ times
+  observed_by : 1 ≤ w → HasEnd (run processors J) → (extra times : ℕ) → 1 ≤ times
       → (schedule : List (List ℕ)) → IsFor (times * processors) schedule
-      → IsWithinTimes times J.rules.ratio (worth (numbered (observed processors J)) schedule) (completed_value processors J)
-  observed_by some_work ends double times some_times schedule few =
+      → (2 * J.rules.ratio.q - J.rules.ratio.p) * completed_value processors J ≤ 2 * J.rules.ratio.q * extra
+      → IsWithinTimes times J.rules.ratio (worth (numbered (observed processors J)) schedule - extra)
+      (completed_value processors J)
+  observed_by some_work ends extra times some_times schedule few much =
       let out = at_end ends in
       subst (λ (s : State). IsWithinTimes times J.rules.ratio
-      (worth (enumerate_from 0 (map observing (tasks_of s.jobs))) schedule) (completed_value processors J))
+      (worth (enumerate_from 0 (map observing (tasks_of s.jobs))) schedule - extra) (completed_value processors J))
       (sym (out.is_last (opening J.jobs)))
       (subst (IsWithinTimes times J.rules.ratio
-      (worth (enumerate_from 0 (map observing (tasks_of out.last.jobs))) schedule)) (sym out.value)
-      (observed_bound out.last out.ran out.keeps out.holds.0 out.over some_work out.holds.1 double times some_times schedule
-      few))
+      (worth (enumerate_from 0 (map observing (tasks_of out.last.jobs))) schedule - extra)) (sym out.value)
+      (observed_bound out.last out.ran out.keeps out.holds.0 out.over some_work out.holds.1 extra times some_times schedule
+      few (subst (λ c. (2 * J.rules.ratio.q - J.rules.ratio.p) * c ≤ 2 * J.rules.ratio.q * extra) out.value much)))
 
 -- the books of a run that ends, with the ticks that it gives
 pub run_books : (processors : ℕ) (J : Instance) → 1 ≤ processors → IsValid J → HasEnd (run processors J)
@@ -442,19 +447,21 @@ run_bound times processors J schedule some_times some valid ends few = by_jobs (
   by_jobs (inl none) = bound_by 0 1 processors some J valid
       (λ i member. absurd (subst (IsMember i) none member)) (omega arith) ends times some_times schedule few
 
--- nor against the works as the run observed them, where the ratio is at least 2
-pub run_observed : (times processors : ℕ) (J : Instance) (schedule : List (List ℕ)) → 1 ≤ times → 1 ≤ processors
-    → IsValid J → 2 * J.rules.ratio.q ≤ J.rules.ratio.p → HasEnd (run processors J)
-    → IsFor (times * processors) schedule
-    → IsWithinTimes times J.rules.ratio (worth (numbered (observed processors J)) schedule) (completed_value processors J)
-run_observed times processors J schedule some_times some valid double ends few = by_jobs (some_least J valid) where
+-- nor against the works as the run observed them, but for so much of what the run completes as the ratio is less than 2
+pub run_observed : (times processors extra : ℕ) (J : Instance) (schedule : List (List ℕ)) → 1 ≤ times → 1 ≤ processors
+    → IsValid J → HasEnd (run processors J) → IsFor (times * processors) schedule
+    → (2 * J.rules.ratio.q - J.rules.ratio.p) * completed_value processors J ≤ 2 * J.rules.ratio.q * extra
+    → IsWithinTimes times J.rules.ratio (worth (numbered (observed processors J)) schedule - extra)
+    (completed_value processors J)
+run_observed times processors extra J schedule some_times some valid ends few much = by_jobs (some_least J valid) where
   by_jobs : (J.jobs ≡ []) ⊎ ((j : JobFacts) × IsLeastDense J j)
-      → IsWithinTimes times J.rules.ratio (worth (numbered (observed processors J)) schedule) (completed_value processors J)
+      → IsWithinTimes times J.rules.ratio (worth (numbered (observed processors J)) schedule - extra)
+      (completed_value processors J)
   by_jobs (inr it) = observed_by it.0.value it.0.work processors some J valid (least_modest J valid it.0 it.1)
-      (job_limits (all_member IsJob J.jobs (valid_parts valid).each it.0 it.1.job)).work ends double times some_times
-      schedule few
+      (job_limits (all_member IsJob J.jobs (valid_parts valid).each it.0 it.1.job)).work ends extra times some_times
+      schedule few much
   by_jobs (inl none) = observed_by 0 1 processors some J valid
-      (λ i member. absurd (subst (IsMember i) none member)) (omega arith) ends double times some_times schedule few
+      (λ i member. absurd (subst (IsMember i) none member)) (omega arith) ends extra times some_times schedule few much
 
 -- nor is one of as many processors worth more than the bound
 pub run_bound_same : (processors : ℕ) (J : Instance) (schedule : List (List ℕ)) → 1 ≤ processors → IsValid J

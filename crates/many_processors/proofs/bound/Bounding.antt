@@ -1,7 +1,7 @@
 -- The competitive bound over any books of a run of several processors.
 use Rattle.std.proofs.Common.{◌≡◌, ℕ, suc, zero, ◌+◌, ◌-◌, ◌*◌, ◌≤◌, ◌⊎◌, inl, inr, List, [], ◌∷◌, ◌++◌, length, refl, sym}
 use Rattle.std.proofs.Common.{◌∙◌, ap, subst, Bool, true, false, cond, eqb, nat_le, arith, sum_by, filter, leb-true}
-use Rattle.std.proofs.Math.Nat.{mul-le-mul_left}
+use Rattle.std.proofs.Math.Nat.{mul-le-mul_left, mul-sub}
 use Rattle.std.proofs.lemmas.List.Sums.{sum_by-cons, sum_by-append}
 use Rattle.dover_model.specs.Fraction.{Fraction}
 use Rattle.dover_model.specs.Orders.{IsHeavy}
@@ -29,14 +29,14 @@ use Rattle.many_processors.proofs.bound.Summing.{works_fit}
 -- that a first take displaced (lost, of e; of which so much, spare, is completed), set aside (aside) and abandoned besides
 -- (rest, of so much work), where they fit so many times the ticks, and the served ones, which surely need so much (sure),
 -- pay for what they had and for themselves
-parts_most : (times p q v w usual served other spare lost aside rest work sure ticks had other_had r d e y : ℕ)
+parts_most : (times p q x v w usual served other spare lost aside rest work sure ticks had other_had r d e y : ℕ)
     → 1 ≤ w → usual ≤ r → lost ≤ e → work + sure ≤ times * ticks
     → v * ticks ≤ w * (r + d + spare) + v * (had + other_had) → v * other_had ≤ w * other
-    → q * (w * served) + times * p * (v * had) ≤ times * p * (w * served) + p * (v * sure)
+    → 2 * (q * (w * served) + times * p * (v * had)) ≤ 2 * (times * p * (w * served) + p * (v * sure)) + x * (w * served)
     → q * w * rest ≤ p * v * work → aside ≤ times * (r + (served + other + spare)) + y
-    → q * (usual + served + lost + (aside + rest))
-    ≤ times * ((p + q) * (r + (served + other + spare))) + (q * r + times * (p * d) + q * e + q * y)
-parts_most times p q v w usual served other spare lost aside rest work sure ticks had other_had r d e y some low few fit
+    → 2 * (q * (usual + served + lost + (aside + rest)))
+    ≤ 2 * (times * ((p + q) * (r + (served + other + spare))) + (q * r + times * (p * d) + q * e + q * y)) + x * served
+parts_most times p q x v w usual served other spare lost aside rest work sure ticks had other_had r d e y some low few fit
     paid own pays dense little =
     let fit_times : p * v * (work + sure) ≤ p * v * (times * ticks) = mul-le-mul_left (p * v) fit in
     let paid_times : times * p * (v * ticks) ≤ times * p * (w * (r + d + spare) + v * (had + other_had)) =
@@ -46,9 +46,16 @@ parts_most times p q v w usual served other spare lost aside rest work sure tick
     let lost_times : w * q * lost ≤ w * q * e = mul-le-mul_left (w * q) few in
     let aside_times : w * q * aside ≤ w * q * (times * (r + (served + other + spare)) + y) =
     mul-le-mul_left (w * q) little in
-    cancel w (q * (usual + served + lost + (aside + rest)))
-    (times * ((p + q) * (r + (served + other + spare))) + (q * r + times * (p * d) + q * e + q * y)) some
+    cancel w (2 * (q * (usual + served + lost + (aside + rest))))
+    (2 * (times * ((p + q) * (r + (served + other + spare))) + (q * r + times * (p * d) + q * e + q * y)) + x * served) some
     (omega (arith, fit_times, paid_times, own_times, pays, usual_times, lost_times, aside_times, dense))
+
+-- so they are but for so much more
+but_for : (q x o extra served all most : ℕ) → 2 * (q * o) ≤ 2 * most + x * served → served ≤ all → x * all ≤ 2 * q * extra
+    → q * (o - extra) ≤ most
+but_for q x o extra served all most sum part more =
+    let times : x * served ≤ x * all = mul-le-mul_left x part in
+    omega (arith, sum, times, more, mul-sub q o extra)
 
 -- what is above adds up
 pub excess_sum : (k : Fraction) → 1 ≤ k.q → k.q ≤ k.p → {X : Type 0} → (f g : X → ℕ) (xs : List X)
@@ -66,21 +73,21 @@ abbrev pub earned_by : (Job → ℕ) → List (List ℕ) → Job → ℕ
 earned_by needs s n_j = cond (nat_le (needs n_j) (ticks_given s n_j.0 n_j.1)) n_j.1.value 0
 
 -- values that pay for more, added up
-sum_pays : (q m p v w : ℕ) {X : Type 0} (value had sure : X → ℕ) (xs : List X)
-    → Each (λ x. q * (w * value x) + m * (v * had x) ≤ m * (w * value x) + p * (v * sure x)) xs
-    → q * (w * sum_by value xs) + m * (v * sum_by had xs) ≤ m * (w * sum_by value xs) + p * (v * sum_by sure xs)
-sum_pays q m p v w value had sure [] all = omega arith
-sum_pays q m p v w value had sure (x ∷ xs) all =
-    subst (λ n. q * (w * n) + m * (v * sum_by had (x ∷ xs)) ≤ m * (w * n) + p * (v * sum_by sure (x ∷ xs)))
-    (sym (sum_by-cons value x xs))
-    (subst (λ n. q * (w * (value x + sum_by value xs)) + m * (v * n)
-    ≤ m * (w * (value x + sum_by value xs)) + p * (v * sum_by sure (x ∷ xs))) (sym (sum_by-cons had x xs))
-    (subst (λ n. q * (w * (value x + sum_by value xs)) + m * (v * (had x + sum_by had xs))
-    ≤ m * (w * (value x + sum_by value xs)) + p * (v * n)) (sym (sum_by-cons sure x xs))
-    (let rest : q * (w * sum_by value xs) + m * (v * sum_by had xs)
-    ≤ m * (w * sum_by value xs) + p * (v * sum_by sure xs) =
-    sum_pays q m p v w value had sure xs (λ y member. all y (inr member)) in
-    omega (arith, all x (inl refl), rest))))
+sum_pays : (q m p x v w : ℕ) {X : Type 0} (value had sure : X → ℕ) (xs : List X)
+    → Each (λ u. 2 * (q * (w * value u) + m * (v * had u)) ≤ 2 * (m * (w * value u) + p * (v * sure u)) + x * (w * value u)) xs
+    → 2 * (q * (w * sum_by value xs) + m * (v * sum_by had xs))
+    ≤ 2 * (m * (w * sum_by value xs) + p * (v * sum_by sure xs)) + x * (w * sum_by value xs)
+sum_pays q m p x v w value had sure [] all = omega arith
+sum_pays q m p x v w value had sure (u ∷ xs) all =
+    subst (λ n. 2 * (q * (w * n) + m * (v * sum_by had (u ∷ xs)))
+    ≤ 2 * (m * (w * n) + p * (v * sum_by sure (u ∷ xs))) + x * (w * n)) (sym (sum_by-cons value u xs))
+    (subst (λ n. 2 * (q * (w * (value u + sum_by value xs)) + m * (v * n))
+    ≤ 2 * (m * (w * (value u + sum_by value xs)) + p * (v * sum_by sure (u ∷ xs)))
+    + x * (w * (value u + sum_by value xs))) (sym (sum_by-cons had u xs))
+    (subst (λ n. 2 * (q * (w * (value u + sum_by value xs)) + m * (v * (had u + sum_by had xs)))
+    ≤ 2 * (m * (w * (value u + sum_by value xs)) + p * (v * n)) + x * (w * (value u + sum_by value xs)))
+    (sym (sum_by-cons sure u xs))
+    (omega (arith, all u (inl refl), sum_pays q m p x v w value had sure xs (λ y member. all y (inr member))))))
 
 -- the value of a job that was completed after a take pays for the ticks that it had
 had_paid : (v w : ℕ) (o : Over) → TakenIn v w o → v * o.had ≤ w * o.job.value
@@ -92,9 +99,11 @@ had_paid v w o it = let less : v * o.had ≤ v * o.job.work = mul-le-mul_left v 
 module _ (k : Fraction) (v w : ℕ) (processors : ℕ) (jobs : List Job) (ran : List (List ℕ))
     (books : AreBooks k v w processors jobs ran) (times : ℕ) (some_times : 1 ≤ times) (s : List (List ℕ))
     (few : IsFor (times * processors) s) (needs : Job → ℕ)
-    (gone_needs : Each (λ o. o.job.work ≤ needs (job_of o)) books.gone)
-    (pays : Each (λ o. k.q * (w * o.job.value) + times * k.p * (v * o.had)
-    ≤ times * k.p * (w * o.job.value) + k.p * (v * (needs (job_of o) - (o.job.work - o.had)))) books.taken) where
+    (gone_needs : Each (λ o. o.job.work ≤ needs (job_of o)) books.gone) (x extra : ℕ)
+    (pays : Each (λ o. 2 * (k.q * (w * o.job.value) + times * k.p * (v * o.had))
+    ≤ 2 * (times * k.p * (w * o.job.value) + k.p * (v * (needs (job_of o) - (o.job.work - o.had))))
+    + x * (w * o.job.value)) books.taken)
+    (much : x * sum_by completed_in books.intervals ≤ 2 * k.q * extra) where
   -- the schedule gives the job what it needs
   abbrev is_given : Job → Bool
   is_given n_j = nat_le (needs n_j) (ticks_given s n_j.0 n_j.1)
@@ -217,9 +226,10 @@ module _ (k : Fraction) (v w : ℕ) (processors : ℕ) (jobs : List Job) (ran : 
         by_test false had value paid = paid
 
   -- those of the served ones pay for more
-  served_pay : k.q * (w * sum_by (λ o. o.job.value) taken) + times * k.p * (v * sum_by (λ o. o.had) taken)
-      ≤ times * k.p * (w * sum_by (λ o. o.job.value) taken) + k.p * (v * sum_by sure taken)
-  served_pay = sum_pays k.q (times * k.p) k.p v w (λ (o : Over). o.job.value) (λ o. o.had) sure taken
+  served_pay : 2 * (k.q * (w * sum_by (λ o. o.job.value) taken) + times * k.p * (v * sum_by (λ o. o.had) taken))
+      ≤ 2 * (times * k.p * (w * sum_by (λ o. o.job.value) taken) + k.p * (v * sum_by sure taken))
+      + x * (w * sum_by (λ o. o.job.value) taken)
+  served_pay = sum_pays k.q (times * k.p) k.p x v w (λ (o : Over). o.job.value) (λ o. o.had) sure taken
       (λ o member. pays o (member_filter serves books.taken o member).0)
 
   -- what a job that is set aside is worth above what its interval completes
@@ -300,23 +310,22 @@ module _ (k : Fraction) (v w : ℕ) (processors : ℕ) (jobs : List Job) (ran : 
   )
 
   -- the parts, together
-  most : k.q * sum_by earns jobs ≤ times * ((k.p + k.q) * (regular_all + taken_all))
+  most : k.q * (sum_by earns jobs - extra) ≤ times * ((k.p + k.q) * (regular_all + taken_all))
       + (k.q * regular_all + times * (k.p * displaced_all) + k.q * first_all + k.q * above_all)
   most =
       let values : sum_by (λ o. o.job.value) taken + unserved (λ o. o.job.value) + books.spare ≡ taken_all =
       omega (arith, both_parts (λ o. o.job.value), books.taken_sum) in
-      let parts : k.q * (sum_by earns books.regular + sum_by (λ o. o.job.value) taken
-      + sum_by earns books.lost
-      + (sum_by (λ p. p.1.job.value) aside.pairs + sum_by (λ o. o.job.value) aside.rest))
-      ≤ times * ((k.p + k.q) * (regular_all + (sum_by (λ o. o.job.value) taken + unserved (λ o. o.job.value)
+      let parts : 2 * (k.q * (sum_by earns books.regular + sum_by (λ o. o.job.value) taken + sum_by earns books.lost
+      + (sum_by (λ p. p.1.job.value) aside.pairs + sum_by (λ o. o.job.value) aside.rest)))
+      ≤ 2 * (times * ((k.p + k.q) * (regular_all + (sum_by (λ o. o.job.value) taken + unserved (λ o. o.job.value)
       + books.spare)))
-      + (k.q * regular_all + times * (k.p * displaced_all) + k.q * first_all + k.q * above_all) =
-      parts_most times k.p k.q v w (sum_by earns books.regular) (sum_by (λ o. o.job.value) taken)
+      + (k.q * regular_all + times * (k.p * displaced_all) + k.q * first_all + k.q * above_all))
+      + x * sum_by (λ o. o.job.value) taken =
+      parts_most times k.p k.q x v w (sum_by earns books.regular) (sum_by (λ o. o.job.value) taken)
       (unserved (λ o. o.job.value)) books.spare (sum_by earns books.lost)
       (sum_by (λ p. p.1.job.value) aside.pairs) (sum_by (λ o. o.job.value) aside.rest)
       (sum_by (λ o. o.job.work) aside.rest) (sum_by sure taken) (sum_by length ran) (sum_by (λ o. o.had) taken)
-      (unserved (λ o. o.had))
-      regular_all displaced_all first_all above_all books.some_work usual_most lost_most fit
+      (unserved (λ o. o.had)) regular_all displaced_all first_all above_all books.some_work usual_most lost_most fit
       (subst (λ n. v * sum_by length ran ≤ w * (regular_all + displaced_all + books.spare) + v * n)
       (both_parts (λ o. o.had)) books.ticks_paid) unserved_paid served_pay rest_dense
       (subst (λ n. sum_by (λ p. p.1.job.value) aside.pairs ≤ times * (regular_all + n) + above_all) (sym values)
@@ -325,15 +334,19 @@ module _ (k : Fraction) (v w : ℕ) (processors : ℕ) (jobs : List Job) (ran : 
       + sum_by earns books.lost
       + (sum_by (λ p. p.1.job.value) aside.pairs + sum_by (λ o. o.job.value) aside.rest)) =
       mul-le-mul_left k.q worth_parts in
-      subst (λ n. k.q * sum_by earns jobs ≤ times * ((k.p + k.q) * (regular_all + n))
+      subst (λ n. k.q * (sum_by earns jobs - extra) ≤ times * ((k.p + k.q) * (regular_all + n))
       + (k.q * regular_all + times * (k.p * displaced_all) + k.q * first_all + k.q * above_all)) values
-      (omega (arith, worth_times, parts))
+      (but_for k.q x (sum_by earns jobs) extra (sum_by (λ o. o.job.value) taken) (sum_by completed_in books.intervals)
+      (times * ((k.p + k.q) * (regular_all + (sum_by (λ o. o.job.value) taken + unserved (λ o. o.job.value)
+      + books.spare)))
+      + (k.q * regular_all + times * (k.p * displaced_all) + k.q * first_all + k.q * above_all))
+      (omega (arith, worth_times, parts)) (omega (arith, values, completed_parts)) much)
 
-  -- it earns no more than the bound of what is completed, so many times
-  pub needs_bound : IsWithinTimes times k (sum_by earns jobs) (sum_by completed_in books.intervals)
-  needs_bound = subst (IsWithinTimes times k (sum_by earns jobs)) (sym completed_parts)
-      (within_times k books.some_q books.ratio times some_times (sum_by earns jobs) regular_all taken_all displaced_all first_all
-      above_all most
+  -- but for so much it earns no more than the bound of what is completed, so many times
+  pub needs_bound : IsWithinTimes times k (sum_by earns jobs - extra) (sum_by completed_in books.intervals)
+  needs_bound = subst (IsWithinTimes times k (sum_by earns jobs - extra)) (sym completed_parts)
+      (within_times k books.some_q books.ratio times some_times (sum_by earns jobs - extra) regular_all taken_all
+      displaced_all first_all above_all most
       (twice_sum k books.some_q books.ratio (λ (i : Interval). i.displaced) (λ i. i.first) (λ i. i.taken) books.intervals
       books.displaced) little)
 
@@ -341,29 +354,31 @@ module _ (k : Fraction) (v w : ℕ) (processors : ℕ) (jobs : List Job) (ran : 
 
 -- where a job that is completed after a take needs all its work, its value pays for that
 pays_work : (times p q v w value work had : ℕ) → 1 ≤ times → q ≤ p → had ≤ work → v * work ≤ w * value
-    → q * (w * value) + times * p * (v * had) ≤ times * p * (w * value) + p * (v * (work - (work - had)))
+    → 2 * (q * (w * value) + times * p * (v * had))
+    ≤ 2 * (times * p * (w * value) + p * (v * (work - (work - had)))) + 0 * (w * value)
 pays_work zero p q v w value work had some ratio most paid = absurd (omega (arith, some))
 pays_work (suc n) p q v w value work had some ratio most paid =
     let same : work - (work - had) ≡ had = omega (arith, most) in
     let less : v * had ≤ v * work = mul-le-mul_left v most in
     let all : n * p * (v * had) ≤ n * p * (w * value) = mul-le-mul_left (n * p) (omega (arith, less, paid)) in
     let own : (w * value) * q ≤ (w * value) * p = mul-le-mul_left (w * value) ratio in
-    subst (λ x. q * (w * value) + suc n * p * (v * had) ≤ suc n * p * (w * value) + p * (v * x)) (sym same)
+    subst (λ x. 2 * (q * (w * value) + suc n * p * (v * had))
+    ≤ 2 * (suc n * p * (w * value) + p * (v * x)) + 0 * (w * value)) (sym same)
     (omega (arith, all, own))
 
--- so it does where it needs what it had, if the ratio is at least 2
-pays_had : (times p q v w value work had needs : ℕ) → 1 ≤ times → 2 * q ≤ p → had ≤ work → had ≤ needs
-    → v * work ≤ w * value
-    → q * (w * value) + times * p * (v * had) ≤ times * p * (w * value) + p * (v * (needs - (work - had)))
-pays_had zero p q v w value work had needs some double most enough paid = absurd (omega (arith, some))
-pays_had (suc n) p q v w value work had needs some double most enough paid = by_sure (needs - (work - had))
-    (omega (arith, most, enough)) where
-      by_sure : (sure : ℕ) → 2 * had ≤ work + 2 * sure
-          → q * (w * value) + suc n * p * (v * had) ≤ suc n * p * (w * value) + p * (v * sure)
-      by_sure sure half =
+-- where it needs what it had, so it does but for what the ratio is less than 2
+pays_had : (times p q v w value work had needs : ℕ) → 1 ≤ times → had ≤ work → had ≤ needs → v * work ≤ w * value
+    → 2 * (q * (w * value) + times * p * (v * had))
+    ≤ 2 * (times * p * (w * value) + p * (v * (needs - (work - had)))) + (2 * q - p) * (w * value)
+pays_had zero p q v w value work had needs some most enough paid = absurd (omega (arith, some))
+pays_had (suc n) p q v w value work had needs some most enough paid = by_sure (needs - (work - had))
+    (omega (arith, most, enough)) (2 * q - p) (omega arith) where
+      by_sure : (sure : ℕ) → 2 * had ≤ work + 2 * sure → (x : ℕ) → 2 * q ≤ p + x
+          → 2 * (q * (w * value) + suc n * p * (v * had)) ≤ 2 * (suc n * p * (w * value) + p * (v * sure)) + x * (w * value)
+      by_sure sure half x double =
           let less : v * had ≤ v * work = mul-le-mul_left v most in
           let all : n * p * (v * had) ≤ n * p * (w * value) = mul-le-mul_left (n * p) (omega (arith, less, paid)) in
-          let own : (w * value) * (2 * q) ≤ (w * value) * p = mul-le-mul_left (w * value) double in
+          let own : (w * value) * (2 * q) ≤ (w * value) * (p + x) = mul-le-mul_left (w * value) double in
           let halves : p * v * (2 * had) ≤ p * v * (work + 2 * sure) = mul-le-mul_left (p * v) half in
           let works : p * (v * work) ≤ p * (w * value) = mul-le-mul_left p paid in
           omega (arith, all, own, halves, works)
@@ -373,15 +388,20 @@ module _ (k : Fraction) (v w : ℕ) (processors : ℕ) (jobs : List Job) (ran : 
     (few : IsFor (times * processors) s) where
   -- no schedule is worth more than the bound of what is completed, so many times
   pub many_bound : IsWithinTimes times k (worth jobs s) (sum_by completed_in books.intervals)
-  many_bound = needs_bound k v w processors jobs ran books times some_times s few (λ n_j. n_j.1.work)
-      (λ o member. omega arith) (λ o member. let it = books.taken_are o member in
+  many_bound = subst (λ c. IsWithinTimes times k c (sum_by completed_in books.intervals)) (none (worth jobs s))
+      (needs_bound k v w processors jobs ran books times some_times s few (λ n_j. n_j.1.work)
+      (λ o member. omega arith) 0 0 (λ o member. let it = books.taken_are o member in
       pays_work times k.p k.q v w o.job.value o.job.work o.had some_times books.ratio it.at_most_work it.work_paid)
+      (omega arith)) where
+        none : (c : ℕ) → c - 0 ≡ c
+        none c = omega arith
 
-  -- nor is one where each job needs what it had, if the ratio is at least 2
-  pub had_bound : 2 * k.q ≤ k.p → (needs : Job → ℕ) → Each (λ o. o.job.work ≤ needs (job_of o)) books.gone
-      → Each (λ o. o.had ≤ needs (job_of o)) books.taken
-      → IsWithinTimes times k (sum_by (earned_by needs s) jobs) (sum_by completed_in books.intervals)
-  had_bound double needs gone_needs taken_needs = needs_bound k v w processors jobs ran books times some_times s few needs
-      gone_needs (λ o member. let it = books.taken_are o member in
-      pays_had times k.p k.q v w o.job.value o.job.work o.had (needs (job_of o)) some_times double it.at_most_work
-      (taken_needs o member) it.work_paid)
+  -- nor is one where each job needs what it had, but for so much of what is completed as the ratio is less than 2
+  pub had_bound : (needs : Job → ℕ) → Each (λ o. o.job.work ≤ needs (job_of o)) books.gone
+      → Each (λ o. o.had ≤ needs (job_of o)) books.taken → (extra : ℕ)
+      → (2 * k.q - k.p) * sum_by completed_in books.intervals ≤ 2 * k.q * extra
+      → IsWithinTimes times k (sum_by (earned_by needs s) jobs - extra) (sum_by completed_in books.intervals)
+  had_bound needs gone_needs taken_needs extra much = needs_bound k v w processors jobs ran books times some_times s few
+      needs gone_needs (2 * k.q - k.p) extra (λ o member. let it = books.taken_are o member in
+      pays_had times k.p k.q v w o.job.value o.job.work o.had (needs (job_of o)) some_times it.at_most_work
+      (taken_needs o member) it.work_paid) much

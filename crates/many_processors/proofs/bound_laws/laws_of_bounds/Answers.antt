@@ -49,5 +49,5 @@ returns-clause-one_job c processors n J j some valid there light heavy =
     heavy_completed processors J valid some n j there light heavy
 
 pub returns-clause-observed_works : goal.returns-clause-observed_works
-returns-clause-observed_works c processors times J s some some_times valid double few =
-    run_observed times processors J s some_times some valid double (run_ends processors J valid some) few
+returns-clause-observed_works c processors times extra J s some some_times valid few much =
+    run_observed times processors extra J s some_times some valid (run_ends processors J valid some) few much
