@@ -1,11 +1,12 @@
--- Lanes: feeds that stand apart, each with a run on a processor of its own, beside schedules of all their jobs together.
+-- Lanes: feeds that stand apart, each with a run on a processor of its own, beside schedules of all their jobs
+-- together.
 use Rattle.std.specs.Prelude.{ℕ, suc, ◌+◌, List, [], ◌∷◌, map, filter, ◌==◌}
 use Rattle.dover_model.specs.Instance.{Instance}
 use Rattle.dover_model.specs.Schedules.{numbered}
 use Rattle.many_processors.specs.Schedules.{worth}
 
--- A schedule of the jobs of all lanes: place t of the list has the jobs that tick t is given to, each by the number of its
--- lane and its own number there.
+-- A schedule of the jobs of all lanes: place t of the list has the jobs that tick t is given to, each by the number of
+-- its lane and its own number there.
 abbrev pub LaneSchedule : Type 0
 LaneSchedule = List (List (ℕ × ℕ))
 

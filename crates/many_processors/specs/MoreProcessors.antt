@@ -4,8 +4,8 @@ use Rattle.dover_model.specs.Fraction.{Fraction}
 use Rattle.dover_model.specs.declared.factors.Factor.{Factor}
 use Rattle.dover_model.specs.Bound.{scale, is_within_root}
 
--- with the factor β = b/c and the ratio k = p/q: so many times β + k, and the greater of 1 and so many times k/(β-1); all of
--- that multiplied by `scale`
+-- with the factor β = b/c and the ratio k = p/q: so many times β + k, and the greater of 1 and so many times k/(β-1);
+-- all of that multiplied by `scale`
 abbrev pub share_times : (times : ℕ) → Fraction → Factor → ℕ
 share_times times k f = times * (k.q * f.b * (f.b - f.c) + k.p * f.c * (f.b - f.c))
     + f.c * max (k.q * (f.b - f.c)) (times * (k.p * f.c))

@@ -22,7 +22,8 @@ use Rattle.dover_model.specs.declared.events.Task.{Task}
 use Rattle.dover_model.proofs.valid.ValidParts.{valid_parts}
 use Rattle.dover_model.proofs.valid.JobLimits.{ratio_limits, job_limits}
 use Rattle.dover_model.proofs.lists.Tests.{never}
-use Rattle.dover_model.proofs.lists.Members.{map_member, sum_same, sum_map, sum_plus, on_map, sum_filter, sum_zero, sum_le, term_le_sum}
+use Rattle.dover_model.proofs.lists.Members.{map_member, sum_same, sum_map, sum_plus, on_map, sum_filter, sum_zero}
+use Rattle.dover_model.proofs.lists.Members.{sum_le, term_le_sum}
 use Rattle.dover_model.proofs.lists.Members.{all_each, all_member, member_either}
 use Rattle.dover_model.proofs.steps.Roles.{passes, is_over_role}
 use Rattle.dover_model.proofs.steps.Kept.{come_coming}
@@ -32,7 +33,8 @@ use Rattle.many_processors.specs.Run.{run_from, run, enough, HasEnd, completed_v
 use Rattle.many_processors.specs.Schedules.{IsFor, worth, earned, ticks_given}
 use Rattle.many_processors.specs.MoreProcessors.{IsWithinTimes}
 use Rattle.many_processors.specs.Sound.{Keeps}
-use Rattle.many_processors.specs.Books.{Interval, Over, job_of, completed_in, open_at, is_open, given_at, IsBusyIn, AreBooks}
+use Rattle.many_processors.specs.Books.{Interval, Over, job_of, completed_in, open_at, is_open, given_at, IsBusyIn}
+use Rattle.many_processors.specs.Books.{AreBooks}
 use Rattle.many_processors.proofs.steps.Seeing.{each_sees, numbers_below}
 use Rattle.many_processors.proofs.steps.Cases.{step_case}
 use Rattle.many_processors.proofs.steps.Beside.{numbers_stay}
@@ -40,7 +42,8 @@ use Rattle.many_processors.proofs.steps.Placing.{seen_same}
 use Rattle.many_processors.proofs.steps.Turns.{opening_kept}
 use Rattle.many_processors.proofs.runs.Outcomes.{Outcome}
 use Rattle.many_processors.proofs.runs.Outcomes as outcomes
-use Rattle.many_processors.proofs.books.Booked.{Open, shut, sum_at, number_and_job, WasBusy, Booked, is_light_on, fallen_value}
+use Rattle.many_processors.proofs.books.Booked.{Open, shut, sum_at, number_and_job, WasBusy, Booked, is_light_on}
+use Rattle.many_processors.proofs.books.Booked.{fallen_value}
 use Rattle.many_processors.proofs.books.StepBooks.{step_booked}
 use Rattle.many_processors.proofs.bound.Bounding.{many_bound, had_bound, earned_by}
 use Rattle.many_processors.proofs.runs.Honest.{Gave, step_gave, opening_gave}

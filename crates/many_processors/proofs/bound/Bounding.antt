@@ -1,5 +1,6 @@
 -- The competitive bound over any books of a run of several processors.
-use Rattle.std.proofs.Common.{◌≡◌, ℕ, suc, zero, ◌+◌, ◌-◌, ◌*◌, ◌≤◌, ◌⊎◌, inl, inr, List, [], ◌∷◌, ◌++◌, length, refl, sym}
+use Rattle.std.proofs.Common.{◌≡◌, ℕ, suc, zero, ◌+◌, ◌-◌, ◌*◌, ◌≤◌, ◌⊎◌, inl, inr, List, [], ◌∷◌, ◌++◌, length, refl}
+use Rattle.std.proofs.Common.{sym}
 use Rattle.std.proofs.Common.{◌∙◌, ap, subst, Bool, true, false, cond, eqb, nat_le, arith, sum_by, filter, leb-true}
 use Rattle.std.proofs.Math.Nat.{mul-le-mul_left, mul-sub}
 use Rattle.std.proofs.lemmas.List.Sums.{sum_by-cons, sum_by-append}
@@ -26,9 +27,9 @@ use Rattle.many_processors.proofs.bound.Summing.{works_fit}
 -- ---- numbers
 
 -- what a schedule earns by jobs completed before a take (usual, of r), after one (served, of served + other), by those
--- that a first take displaced (lost, of e; of which so much, spare, is completed), set aside (aside) and abandoned besides
--- (rest, of so much work), where they fit so many times the ticks, and the served ones, which surely need so much (sure),
--- pay for what they had and for themselves
+-- that a first take displaced (lost, of e; of which so much, spare, is completed), set aside (aside) and abandoned
+-- besides (rest, of so much work), where they fit so many times the ticks, and the served ones, which surely need so
+-- much (sure), pay for what they had and for themselves
 parts_most : (times p q x v w usual served other spare lost aside rest work sure ticks had other_had r d e y : ℕ)
     → 1 ≤ w → usual ≤ r → lost ≤ e → work + sure ≤ times * ticks
     → v * ticks ≤ w * (r + d + spare) + v * (had + other_had) → v * other_had ≤ w * other

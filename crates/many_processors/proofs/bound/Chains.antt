@@ -9,7 +9,8 @@ use Rattle.dover_model.specs.Common.{Fraction, IsHeavy, IsWithin, is_within_by, 
 use Rattle.dover_model.specs.Common.{IsPaidBy, IsPaid, IsExcessBy, IsExcess}
 use Rattle.dover_model.proofs.lists.Members.{sum_le, sum_same, sum_plus}
 use Rattle.dover_model.proofs.bound.Calculus.{Below, HeavyBy, below_add, below_mono, regular_below, displaced_below}
-use Rattle.dover_model.proofs.bound.Calculus.{excess_below, within_from, factor_agrees, factor_over, root_excess, heavy_more}
+use Rattle.dover_model.proofs.bound.Calculus.{excess_below, within_from, factor_agrees, factor_over, root_excess}
+use Rattle.dover_model.proofs.bound.Calculus.{heavy_more}
 use Rattle.dover_model.proofs.bound.Calculus.{paid_zero, paid_add, paid_sum}
 use Rattle.many_processors.specs.Books.{IsPaidTwice}
 use Rattle.many_processors.specs.MoreProcessors.{IsWithinTimesBy, IsWithinTimes}
@@ -113,8 +114,8 @@ module _ (k : Fraction) (some_q : 1 ≤ k.q) (ratio : k.q ≤ k.p) (times : ℕ)
         (linear_times times k.p k.q f.c (f.b - f.c) (max (k.q * (f.b - f.c)) (times * (k.p * f.c))) c r z d y (le-max_left _ _) (le-max_right _ _) most paid
         little)
 
-  -- what is so far above what is done as usual and taken, with what was displaced, that by first takes besides, and what is
-  -- above, stands within so many times
+  -- what is so far above what is done as usual and taken, with what was displaced, that by first takes besides, and
+  -- what is above, stands within so many times
   pub within_times : (c r z d e y : ℕ)
       → k.q * c ≤ times * ((k.p + k.q) * (r + z)) + (k.q * r + times * (k.p * d) + k.q * e + k.q * y)
       → IsPaidTwice k d e z → IsExcess k y (times * (r + z)) → IsWithinTimes times k c (r + z)

@@ -1,7 +1,8 @@
 -- What a schedule gives in one tick to jobs that the run completes after a take or abandons: no more than the run gives
 -- in that tick, so many times, and one for each job that was set aside by then and isn't due yet.
 use Rattle.std.proofs.Common.{◌≡◌, ℕ, ◌+◌, ◌*◌, ◌≤◌, ◌<◌, ◌⊎◌, inl, inr, List, [], ◌∷◌, ◌++◌, length, refl, sym, ap}
-use Rattle.std.proofs.Common.{Bool, true, false, cond, eqb, arith, nat_le, nat_lt, ◌&&◌, ◌||◌, not, sum_by, le-leb, leb-true}
+use Rattle.std.proofs.Common.{Bool, true, false, cond, eqb, arith, nat_le, nat_lt, ◌&&◌, ◌||◌, not, sum_by, le-leb}
+use Rattle.std.proofs.Common.{leb-true}
 use Rattle.std.proofs.Common.{lt-ltb, ltb-true, eq-eqb}
 use Rattle.std.proofs.lemmas.Bool.{cases_lt, and_parts}
 use Rattle.std.proofs.lemmas.List.Sums.{sum_by-cons, sum_by-append}

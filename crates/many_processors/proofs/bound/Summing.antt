@@ -1,6 +1,6 @@
 -- The sum over all ticks: what a schedule serves of the jobs that the run completes after a take or abandons. Without
--- those set aside, and with no more for the completed ones than they surely have before they are over, they ask for no more
--- than so many times the ticks that the run gives.
+-- those set aside, and with no more for the completed ones than they surely have before they are over, they ask for no
+-- more than so many times the ticks that the run gives.
 use Rattle.std.proofs.Common.{◌≡◌, ℕ, ◌+◌, ◌-◌, ◌*◌, ◌≤◌, ◌<◌, ◌⊎◌, inl, inr, List, ◌++◌, length}
 use Rattle.std.proofs.Common.{Bool, true, false, arith, nat_le, nat_lt, ◌&&◌, sum_by, le-leb, lt-ltb}
 use Rattle.std.proofs.lemmas.Bool.{cases_lt}
@@ -13,7 +13,8 @@ use Rattle.dover_model.proofs.lists.Members.{sum_le}
 use Rattle.dover_model.proofs.bound.Counting.{one, in_window}
 use Rattle.many_processors.specs.Schedules.{is_named, ticks_given, IsFor}
 use Rattle.many_processors.specs.Books.{Interval, Over, open_at, given_at, IsBusyIn, is_light_in}
-use Rattle.many_processors.proofs.bound.Ticks.{total, total_le, total_plus, total_times, total_sum, range_count, given_share}
+use Rattle.many_processors.proofs.bound.Ticks.{total, total_le, total_plus, total_times, total_sum, range_count}
+use Rattle.many_processors.proofs.bound.Ticks.{given_share}
 use Rattle.many_processors.proofs.bound.Ticks.{ran_most}
 use Rattle.many_processors.proofs.bound.Copies.{each_times}
 use Rattle.many_processors.proofs.bound.Sharing.{NamesOnce, SetAside, light_parts, still_aside, tick_shared}

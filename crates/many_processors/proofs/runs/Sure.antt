@@ -1,6 +1,7 @@
 -- A job that is heavy against what can hold the processors, and against which none is heavy, is completed.
 use Rattle.std.proofs.Common.{◌≡◌, ℕ, suc, zero, ◌+◌, ◌-◌, ◌*◌, ◌≤◌, ◌<◌, ◌⊎◌, inl, inr, List, [], ◌∷◌, refl, sym, ap}
-use Rattle.std.proofs.Common.{◌∙◌, subst, Bool, true, false, cond, arith, eqb, eqb-true, sum_by, nat_le, nat_lt, ◌&&◌, ◌==◌}
+use Rattle.std.proofs.Common.{◌∙◌, subst, Bool, true, false, cond, arith, eqb, eqb-true, sum_by, nat_le, nat_lt, ◌&&◌}
+use Rattle.std.proofs.Common.{◌==◌}
 use Rattle.std.proofs.Common.{not, le-leb, lt-ltb, None, Some, Option, filter}
 use Rattle.std.specs.List.{enumerate_from}
 use Rattle.std.proofs.lemmas.Bool.{cases_lt}
@@ -15,14 +16,17 @@ use Rattle.dover_model.specs.declared.factors.Factor.{Factor}
 use Rattle.dover_model.specs.JobFacts.{JobFacts}
 use Rattle.dover_model.specs.Underload as underload
 use Rattle.dover_model.specs.Underload.{abandons}
-use Rattle.dover_model.specs.Common.{Fraction, Instance, IsValid, IsHeavy, IsExcessBy, IsExcess, is_privileged, is_running, is_done, is_over}
-use Rattle.dover_model.specs.Common.{is_waiting, is_at_latest_start, starts_before, latest_start, left, IsMember, Each, numbered}
+use Rattle.dover_model.specs.Common.{Fraction, Instance, IsValid, IsHeavy, IsExcessBy, IsExcess, is_privileged}
+use Rattle.dover_model.specs.Common.{is_running, is_done, is_over}
+use Rattle.dover_model.specs.Common.{is_waiting, is_at_latest_start, starts_before, latest_start, left, IsMember}
+use Rattle.dover_model.specs.Common.{Each, numbered}
 use Rattle.dover_model.specs.Common.{to_come, value_sum}
 use Rattle.dover_model.specs.Step as single
 use Rattle.dover_model.proofs.bound.Calculus.{HeavyBy, heavy_mono, heavy_more, not_heavy, factor_over, root_excess}
 use Rattle.dover_model.proofs.bound.Counting.{one}
 use Rattle.dover_model.proofs.lists.Tests.{never}
-use Rattle.dover_model.proofs.lists.Members.{map_member, on_map, sum_map, sum_le, sum_plus, sum_zero, term_le_sum, member_filter}
+use Rattle.dover_model.proofs.lists.Members.{map_member, on_map, sum_map, sum_le, sum_plus, sum_zero, term_le_sum}
+use Rattle.dover_model.proofs.lists.Members.{member_filter}
 use Rattle.dover_model.proofs.lists.Members.{all_each}
 use Rattle.dover_model.proofs.lists.FirstOfTasks.{first_member}
 use Rattle.dover_model.proofs.runs.Honest.{sum_tasks}
