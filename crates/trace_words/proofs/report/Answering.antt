@@ -1,6 +1,6 @@
 -- What is told of a text, and what is put of it.
 use Rattle.std.proofs.Common.{◌≡◌, ℕ, List, [], refl, sym, ap, ◌∙◌, subst, Option, Bool, true, Result, Ok, Err}
-use Rattle.std.proofs.Common.{IsOk, IfOk}
+use Rattle.std.proofs.Common.{IsOk, IfOk, false}
 use Rattle.run_record.specs.intervals.Rows.{IsRunOf}
 use Rattle.dover_model.specs.Common.{Fraction, Instance, IsListable, printed, instance_of}
 use Rattle.dover_model.specs.Verdict as model
@@ -36,7 +36,7 @@ module _ {V E : Type 0} (items : V → List ℕ) (Holds : List ℕ → Type 0) w
   of_whole : (text : Result V E) (said : List ℕ) → IsOk text × IfOk text (λ v. said ≡ items v)
       → IfOk text (λ v. Holds (items v)) → Holds said
   of_whole (Ok v) said it holds = subst Holds (sym it.1) holds
-  of_whole (Err e) said it holds = absurd it.0
+  of_whole (Err e) said it holds = absurd (let e : false ≡ true = it.0 in cc)
 
   -- what was put of it
   pub whole_put : {T : Type 0} (text : Result V E) (r : Result T Stop) (a b : Option (List Move)) (q : List ℕ)
