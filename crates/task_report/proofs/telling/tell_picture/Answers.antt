@@ -1,4 +1,4 @@
-use Rattle.std.proofs.Common.{◌∙◌, sym}
+use Rattle.std.proofs.Common.{◌∙◌, sym, [], Ok, Err}
 use Rattle.dover_model.specs.Session.{instance_of}
 use Rattle.dover_model.proofs.lists.Tests.{never}
 use Rattle.dover_model.proofs.sessions.SessionParts.{session_jobs}
@@ -21,7 +21,8 @@ returns-in-Ok-clause-tells g c = λ trace S accepted of.
     let listable = (c.is_small.ensures (instance_of S) (session_jobs of.valid)
     (sym (c.deref.ensures.value ∙ of.prints)) of.version_is).0 c.if-is_small.true in
     drawn_put c.args.form c.args.tasks.now c.requires.drawn trace S accepted _ _ _ of _ _ listable _
-    (whole_put _ (IsTaskReport c.args.form c.args.tasks.now (instance_of S)) _ _ _ _ _ c.in-Ok.ensures.puts
+    (whole_put _ (IsTaskReport c.args.form c.args.tasks.now (instance_of S)) {T = Unit {0}} _ (Ok (record {})) _ _ []
+    c.in-Ok.ensures.puts
     (c.picture.ensures (instance_of S)
     (same_run _ _ _ _ c.deref-then-is_small.ensures.value (run_of S _ _ _ of listable))))
 
@@ -30,7 +31,8 @@ returns-then-is_small-clause-tells g c = λ trace S accepted of.
     let listable = (c.is_small.ensures (instance_of S) (session_jobs of.valid)
     (sym (c.deref.ensures.value ∙ of.prints)) of.version_is).0 c.if-is_small.true in
     drawn_cut c.args.form c.args.tasks.now c.requires.drawn trace S accepted _ _ _ of _ _ listable
-    c.in-Err.stop (whole_put _ (IsTaskReport c.args.form c.args.tasks.now (instance_of S)) _ _ _ _ _
+    c.in-Err.stop
+    (whole_put _ (IsTaskReport c.args.form c.args.tasks.now (instance_of S)) {T = Unit {0}} _ (Err c.in-Err.stop) _ _ []
     c.in-Err.ensures.puts
     (c.picture.ensures (instance_of S)
     (same_run _ _ _ _ c.deref-then-is_small.ensures.value (run_of S _ _ _ of listable))))
