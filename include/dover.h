@@ -1,5 +1,5 @@
 /* An on-line scheduler for one processor under overload (D-over), as a library. What each call answers is proved;
-   docs/LIVE.md says what that is worth and what is trusted.
+   docs/EMBEDDING.md says what that is worth and what is trusted.
 
    Units   A tick is whatever the caller counts: a microsecond, a millisecond, a frame. Releases, deadlines and marks
            are ticks from 0 to 10,000,000,000,000,000, in versions 1 and 2 to 1,000,000,000,000; work is in ticks; value
