@@ -1,6 +1,6 @@
 -- Finishes that lead to the same completions, and finishes that are yet to come, leave what is settled.
 use Rattle.std.proofs.Common.{◌≡◌, ℕ, ◌≤◌, inl, inr, List, [], ◌∷◌, ◌++◌, refl, sym, ap, ◌∙◌, subst, arith, ◌&&◌, fold}
-use Rattle.std.proofs.Common.{nat_le, Option, Some, None, append_assoc, append-nil}
+use Rattle.std.proofs.Common.{nat_le, Option, None, append_assoc, append-nil}
 use Rattle.std.proofs.lemmas.List.Elements.{filter_map-append}
 use Rattle.dover_model.specs.Finishes.{Finish}
 use Rattle.dover_model.specs.Common.{Instance, IsValid, Each, Begins, with_jobs, with_finishes}
@@ -9,13 +9,13 @@ use Rattle.dover_model.proofs.finishes.Meeting.{finishing_valid}
 use Rattle.dover_model.proofs.lists.Tests.{never}
 use Rattle.dover_model.proofs.settled.Settling.{late_early, at_barrier}
 use Rattle.many_processors.specs.State.{State, opening}
-use Rattle.many_processors.specs.Step.{Move, Ticks, Seen, all_seen, ◌or_else◌, ◌or_try◌, first_some, for_one}
+use Rattle.many_processors.specs.Step.{Ticks, Seen, all_seen, ◌or_else◌, ◌or_try◌, first_some, for_one}
 use Rattle.many_processors.specs.Step.{completion, resumption, dispatch, decision, deciding, arrival, front, alarm}
 use Rattle.many_processors.specs.Step.{free_one, least_valued, finishing, open_step, after}
 use Rattle.many_processors.specs.Run as many
 use Rattle.many_processors.specs.Run.{printed_on}
 use Rattle.many_processors.specs.Settled.{waits_for_mark, settled_steps, settled_state, settled, IsSettledRun}
-use Rattle.many_processors.specs.Finishes.{due_completion, IsDueAlike, AreDueAlike, NoneIsDue, AreYetToCome}
+use Rattle.many_processors.specs.Finishes.{IsDueAlike, AreDueAlike, NoneIsDue, AreYetToCome}
 use Rattle.many_processors.proofs.settled.Prefixes.{shown, printed_prefix}
 use Rattle.many_processors.proofs.settled.Settling.{settled_is_run}
 
