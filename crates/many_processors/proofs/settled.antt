@@ -3,3 +3,4 @@ pub mod Later
 pub mod Settling
 pub mod Prefixes
 pub mod Onlines
+pub mod Finishes

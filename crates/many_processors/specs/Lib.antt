@@ -7,6 +7,7 @@ pub mod Sound
 pub mod Ticks
 pub mod Observed
 pub mod Settled
+pub mod Finishes
 pub mod Online
 pub mod MoreProcessors
 pub mod Lanes
