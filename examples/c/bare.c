@@ -5,9 +5,9 @@
    Built with -ffreestanding -nostdlib -static. */
 #include "dover.h"
 
-/* As many jobs may be open, and so much memory is enough for them: 148 bytes for each, and a little more. In version 4
-   it would be 200. */
-enum { CAPACITY = 100, ARENA = 16384, STEP = 16 };
+/* As many jobs may be open, and so much memory is enough for them: 200 bytes for each, and a little more. In versions 1
+   to 3 it would be 148. */
+enum { CAPACITY = 100, ARENA = 24576, STEP = 16 };
 static _Alignas(STEP) unsigned char arena[ARENA];
 static size_t used;
 
@@ -94,9 +94,9 @@ static void settle(uint64_t mark) {
 
 static void serve(void) {
     dover_decision d;
-    dover_init(&engine, 2, 1, 1, CAPACITY);
+    dover_init_factor(&engine, 2, 1, 4, CAPACITY, 2, 1);
     if (dover_status(&engine) != DOVER_MADE) leave(1);
-    say("dover 1 2 1\n");
+    say("dover 4 2 1 2 1\n");
     for (int i = 0; i < 2; i++) {
         settle(jobs[i][0]);
         if (dover_admit(&engine, jobs[i][0], jobs[i][1], jobs[i][2], jobs[i][3]).status != DOVER_ADMITTED) leave(2);

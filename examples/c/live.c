@@ -186,7 +186,7 @@ int main(int words, char **word) {
     if (seconds < 1 || seconds > 60) return 1;
     until = (uint64_t)(seconds * 1000000000 / TICK);
     take_place();
-    dover_init(&engine, 10, 1, 3, 64); /* k = 10, jobs may end early, and at most 64 are open */
+    dover_init_factor(&engine, 10, 1, 4, 64, 2, 1); /* k = 10, by version 4 with the factor 2; at most 64 are open */
     if (dover_size() > sizeof engine || dover_status(&engine) != DOVER_MADE) return 2;
     for (int i = 0; i < TASKS; i++) coming[i] = tasks[i].offset;
     start = now();

@@ -15,7 +15,8 @@ MORE = 3
 
 class Dover(Scheduler):
     def init(self):
-        self.engine, self.jobs, self.runs, self.timer = dover.Engine(RATIO, 1, 3, CAPACITY), {}, None, None
+        self.engine = dover.Engine(RATIO, capacity=CAPACITY)
+        self.jobs, self.runs, self.timer = {}, None, None
 
     def on_activate(self, job):
         now, work = self.sim.now(), int(job.wcet * self.sim.cycles_per_ms) + MORE
