@@ -34,9 +34,9 @@ pub record AreYetToCome (processors : ℕ) (J : Instance) (mark : ℕ) (finishes
 
 -- in a state all of these finishes that are due complete the same job
 abbrev pub CompleteOne : ℕ → Version → List Finish → State → Type 0
-CompleteOne processors version finishes s = EachTwo (λ f g. (m n : Move)
-    → finishing (all_seen processors version s) f ≡ Some m → finishing (all_seen processors version s) g ≡ Some n → m ≡ n)
-    finishes
+CompleteOne processors version finishes s =
+    let completes : Finish → Option Move = finishing (all_seen processors version s) in
+    EachTwo (λ f g. (m n : Move) → completes f ≡ Some m → completes g ≡ Some n → m ≡ n) finishes
 
 -- the job runs at the barrier of the mark, and all settled steps were taken before the mark's tick
 pub record RunsAtMark (processors : ℕ) (J : Instance) (mark : ℕ) (p : Placed) : Type 0 where

@@ -1,7 +1,8 @@
 //! Laws of what is settled on several processors, each a clause of a function that does nothing.
 ghost use Rattle.std.specs.Prelude.{◌≡◌, ◌≤◌, ◌<◌, ℕ, List, [], ◌∷◌, true};
 ghost use Rattle.dover_model.specs.declared.events.Role.TheVariants.{Fresh};
-ghost use Rattle.dover_model.specs.Common.{Rules, Instance, IsValid, with_jobs, with_finishes, JobFacts, Finish, Begins};
+ghost use Rattle.dover_model.specs.Common.{Rules, Instance, IsValid, with_jobs, with_finishes, JobFacts, Finish};
+ghost use Rattle.dover_model.specs.Common.{Begins};
 ghost use Rattle.dover_model.specs.Common.{Each, HaveTheSame, finish_now, known_at};
 ghost use Rattle.dover_model.specs.Instance as instances;
 ghost use Rattle.many_processors.specs.State.{Placed, State, opening};
@@ -23,15 +24,15 @@ ghost use Rattle.many_processors.specs.Online.{printed_up_to};
 /// - `while_open`, `at_the_end`: jobs that are released at the mark or later change nothing of what is settled: it
 ///   begins what is settled at a later mark, and what the run prints.
 /// - `on_line`: what is printed up to a tick depends on the jobs that are released by then alone.
-/// - `further_while_open`, `further_at_the_end`: where no running job has come to one of some further finishes by what is
-///   settled, that begins what is settled at a later mark with them, and what the run prints with them.
+/// - `further_while_open`, `further_at_the_end`: where no running job has come to one of some further finishes by what
+///   is settled, that begins what is settled at a later mark with them, and what the run prints with them.
 /// - `yet_to_come`, `yet_to_come_state`: where none has come to one at the mark either, the same is settled with them.
-/// - `due_alike`, `due_alike_state`: other finishes, or the same ones in another order, of which up to the mark the first
-///   that is due completes the same job at every step, settle the same.
-/// - `another_order`: in a state in which all finishes that are due complete the same job, their order is nothing, nor how
-///   often one stands.
-/// - `finish_at_mark_stays`, `finish_at_mark_next`: a job that runs at the mark, where all that is settled was taken before
-///   its tick, may finish there: what is settled stays, and its completion is next, on its processor.
+/// - `due_alike`, `due_alike_state`: other finishes, or the same ones in another order, of which up to the mark the
+///   first that is due completes the same job at every step, settle the same.
+/// - `another_order`: in a state in which all finishes that are due complete the same job, their order is nothing, nor
+///   how often one stands.
+/// - `finish_at_mark_stays`, `finish_at_mark_next`: a job that runs at the mark, where all that is settled was taken
+///   before its tick, may finish there: what is settled stays, and its completion is next, on its processor.
 pub fn laws_of_settled_steps()
     ensures same_step { (processors : ℕ) (rules : Rules) (s : State) (more : List Placed) (mark : ℕ)
         → AllComeFrom mark more → (waits_for_mark (open_step processors rules s) ≡ true → s.clock < mark)

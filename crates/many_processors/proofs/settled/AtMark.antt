@@ -1,4 +1,4 @@
--- A job that runs at the barrier of a mark, where all that is settled was taken before the mark's tick, may finish there.
+-- A job that runs at the barrier of a mark may finish there, where all that is settled was taken before its tick.
 use Rattle.std.proofs.Common.{◌≡◌, ℕ, ◌+◌, ◌≤◌, ◌<◌, ◌⊎◌, inl, inr, List, [], ◌∷◌, ◌++◌, map, refl, sym, ap, ◌∙◌, subst}
 use Rattle.std.proofs.Common.{Bool, true, false, cond, arith, ◌&&◌, ◌==◌, eqb, eqb-true, eq-eqb, nat_lt, lt-ltb, Option}
 use Rattle.std.proofs.Common.{Some, None}
@@ -17,7 +17,8 @@ use Rattle.dover_model.proofs.steps.Kept.{come_coming}
 use Rattle.dover_model.proofs.steps.Roles.{passes, is_running_role}
 use Rattle.dover_model.proofs.bound.Counting.{one}
 use Rattle.many_processors.specs.State.{Placed, State, opening, unplaced, seen_by}
-use Rattle.many_processors.specs.Step.{Move, Prints, Waits, Ticks, Seen, all_seen, first_some, finishing, finish_on, ◌or_try◌}
+use Rattle.many_processors.specs.Step.{Move, Prints, Waits, Ticks, Seen}
+use Rattle.many_processors.specs.Step.{all_seen, first_some, finishing, finish_on, ◌or_try◌}
 use Rattle.many_processors.specs.Step.{open_step, after, placed_after, in_role, ticked, seen, numbers_from, ◌or_else◌}
 use Rattle.many_processors.specs.Step.{completion, resumption, dispatch, decision, deciding, arrival, front, alarm}
 use Rattle.many_processors.specs.Step.{free_one, least_valued, for_one}

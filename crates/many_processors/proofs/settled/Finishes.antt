@@ -16,7 +16,8 @@ use Rattle.many_processors.specs.Step.{free_one, least_valued, finishing, open_s
 use Rattle.many_processors.specs.Run as many
 use Rattle.many_processors.specs.Run.{printed_on}
 use Rattle.many_processors.specs.Settled.{waits_for_mark, settled_steps, settled_state, settled, IsSettledRun}
-use Rattle.many_processors.specs.Finishes.{CompleteOne, due_completion, IsDueAlike, AreDueAlike, NoneIsDue, AreYetToCome}
+use Rattle.many_processors.specs.Finishes.{CompleteOne, due_completion, IsDueAlike}
+use Rattle.many_processors.specs.Finishes.{AreDueAlike, NoneIsDue, AreYetToCome}
 use Rattle.many_processors.proofs.steps.Cases.{answered, unanswered}
 use Rattle.many_processors.proofs.settled.Prefixes.{shown, printed_prefix}
 use Rattle.many_processors.proofs.settled.Settling.{settled_is_run}
