@@ -8,3 +8,4 @@ pub mod Honest
 pub mod Underload
 pub mod OneProcessor
 pub mod Sure
+pub mod Once

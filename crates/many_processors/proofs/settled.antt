@@ -4,3 +4,4 @@ pub mod Settling
 pub mod Prefixes
 pub mod Onlines
 pub mod Finishes
+pub mod AtMark

@@ -1,21 +1,24 @@
 -- Finishes that lead to the same completions, and finishes that are yet to come, leave what is settled.
 use Rattle.std.proofs.Common.{◌≡◌, ℕ, ◌≤◌, inl, inr, List, [], ◌∷◌, ◌++◌, refl, sym, ap, ◌∙◌, subst, arith, ◌&&◌, fold}
-use Rattle.std.proofs.Common.{nat_le, Option, None, append_assoc, append-nil}
+use Rattle.std.proofs.Common.{nat_le, Option, Some, None, append_assoc, append-nil}
 use Rattle.std.proofs.lemmas.List.Elements.{filter_map-append}
+use Rattle.dover_model.specs.declared.events.Version.{Version}
 use Rattle.dover_model.specs.Finishes.{Finish}
-use Rattle.dover_model.specs.Common.{Instance, IsValid, Each, Begins, with_jobs, with_finishes}
+use Rattle.dover_model.specs.Common.{Instance, IsValid, Each, HaveTheSame, Begins, with_jobs, with_finishes}
 use Rattle.dover_model.specs.Instance as declared
 use Rattle.dover_model.proofs.finishes.Meeting.{finishing_valid}
-use Rattle.dover_model.proofs.lists.Tests.{never}
+use Rattle.dover_model.proofs.lists.Tests.{never, none_is_some}
 use Rattle.dover_model.proofs.settled.Settling.{late_early, at_barrier}
 use Rattle.many_processors.specs.State.{State, opening}
-use Rattle.many_processors.specs.Step.{Ticks, Seen, all_seen, ◌or_else◌, ◌or_try◌, first_some, for_one}
+use Rattle.many_processors.specs.Step.{Move, Ticks, Seen, all_seen, ◌or_else◌, ◌or_try◌, first_some, for_one}
 use Rattle.many_processors.specs.Step.{completion, resumption, dispatch, decision, deciding, arrival, front, alarm}
 use Rattle.many_processors.specs.Step.{free_one, least_valued, finishing, open_step, after}
 use Rattle.many_processors.specs.Run as many
 use Rattle.many_processors.specs.Run.{printed_on}
 use Rattle.many_processors.specs.Settled.{waits_for_mark, settled_steps, settled_state, settled, IsSettledRun}
-use Rattle.many_processors.specs.Finishes.{IsDueAlike, AreDueAlike, NoneIsDue, AreYetToCome}
+use Rattle.many_processors.specs.Finishes.{CompleteOne, due_completion, IsDueAlike}
+use Rattle.many_processors.specs.Finishes.{AreDueAlike, NoneIsDue, AreYetToCome}
+use Rattle.many_processors.proofs.steps.Cases.{answered, unanswered}
 use Rattle.many_processors.proofs.settled.Prefixes.{shown, printed_prefix}
 use Rattle.many_processors.proofs.settled.Settling.{settled_is_run}
 
@@ -35,7 +38,7 @@ begins_through xs ys zs it next =
     (it.0 ++ next.0, next.1 ∙ ap (λ ws. ws ++ next.0) it.1 ∙ append_assoc xs it.0 next.0)
 
 -- the state behind these steps
-abbrev behind : State → List many.Step → State
+abbrev pub behind : State → List many.Step → State
 behind s xs = fold (λ t step. after step.before step.move) s xs
 
 -- ---- finishes that are due alike
@@ -165,3 +168,27 @@ module _ (processors : ℕ) (J : Instance) (more : List Finish) where
     pub yet_state : AreYetToCome processors J mark more
         → settled_state processors (with_finishes J more) mark ≡ settled_state processors J mark
     yet_state yet = alike_state processors J (J.rules.finishes ++ more) some valid mark (yet_alike yet)
+
+-- ---- another order
+
+module _ (processors : ℕ) (version : Version) (fs gs : List Finish) (s : State) (same : HaveTheSame fs gs)
+    (one : CompleteOne processors version fs s) where
+  abbrev completes : Finish → Option Move
+  completes = finishing (all_seen processors version s)
+
+  -- the same finishes in another order lead to the same, where all that are due complete one job
+  pub order_alike : due_completion processors version gs s ≡ due_completion processors version fs s
+  order_alike = by_due (due_completion processors version fs s) (due_completion processors version gs s) refl refl where
+    by_due : (o p : Option Move) → due_completion processors version fs s ≡ o
+        → due_completion processors version gs s ≡ p → p ≡ o
+    by_due None None e f = refl
+    by_due (Some m) (Some n) e f =
+        let a = answered completes fs m e in
+        let b = answered completes gs n f in
+        ap Some (one b.0 a.0 (same.1 b.0 b.1) a.1 n m b.2 a.2)
+    by_due (Some m) None e f =
+        let a = answered completes fs m e in
+        none_is_some (sym (unanswered completes gs f a.0 (same.0 a.0 a.1)) ∙ a.2)
+    by_due None (Some n) e f =
+        let b = answered completes gs n f in
+        none_is_some (sym (unanswered completes fs e b.0 (same.1 b.0 b.1)) ∙ b.2)

@@ -1,6 +1,7 @@
 use Rattle.many_processors.proofs.steps.Turns.{open_kept}
 use Rattle.many_processors.proofs.settled.Finishes.{further_begins, further_printed, yet_same, yet_state}
-use Rattle.many_processors.proofs.settled.Finishes.{alike_same, alike_state}
+use Rattle.many_processors.proofs.settled.Finishes.{alike_same, alike_state, order_alike}
+use Rattle.many_processors.proofs.settled.AtMark.{stays_at_mark, next_at_mark}
 use Rattle.many_processors.proofs.settled.Later.{same_step}
 use Rattle.many_processors.proofs.settled.Onlines.{on_line}
 use Rattle.many_processors.proofs.settled.Prefixes.{settled_prefix, printed_prefix}
@@ -66,3 +67,15 @@ returns-clause-due_alike c processors J finishes mark some valid alike =
 pub returns-clause-due_alike_state : goal.returns-clause-due_alike_state
 returns-clause-due_alike_state c processors J finishes mark some valid alike =
     alike_state processors J finishes some valid mark alike
+
+pub returns-clause-another_order : goal.returns-clause-another_order
+returns-clause-another_order c processors J finishes s same one =
+    order_alike processors J.rules.version J.rules.finishes finishes s same one
+
+pub returns-clause-finish_at_mark_stays : goal.returns-clause-finish_at_mark_stays
+returns-clause-finish_at_mark_stays c processors J mark p some valid at =
+    stays_at_mark processors J valid some mark p at
+
+pub returns-clause-finish_at_mark_next : goal.returns-clause-finish_at_mark_next
+returns-clause-finish_at_mark_next c processors J mark p some valid at =
+    next_at_mark processors J valid some mark p at
