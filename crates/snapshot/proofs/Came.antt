@@ -97,7 +97,7 @@ module _ (rules : Declaration) where
   session items = session_with rules items
 
   -- at a later mark
-  come_later : (items : List Item) (mark later : ℕ) → IsValid (instance_of (session items)) → mark ≤ later
+  pub come_later : (items : List Item) (mark later : ℕ) → IsValid (instance_of (session items)) → mark ≤ later
       → HaveCome rules items mark → HaveCome rules items later
   come_later items mark later valid ordered it f member =
       let was = it f member in (
@@ -109,7 +109,7 @@ module _ (rules : Declaration) where
       )
 
   -- with a job
-  come_job : (items : List Item) (j : JobFacts) → IsValid (instance_of (session (items ++ JobItem j ∷ [])))
+  pub come_job : (items : List Item) (j : JobFacts) → IsValid (instance_of (session (items ++ JobItem j ∷ [])))
       → HaveCome rules items j.release → HaveCome rules (items ++ JobItem j ∷ []) j.release
   come_job items j valid it = by_finishes (filter_map-append finish_of_item items (JobItem j ∷ [])
       ∙ append-nil (early_finishes items)) where
@@ -168,7 +168,7 @@ module _ (rules : Declaration) where
             )
 
   -- with a refused line
-  come_refused : (items : List Item) (r : Refused) (mark : ℕ) → HaveCome rules items mark
+  pub come_refused : (items : List Item) (r : Refused) (mark : ℕ) → HaveCome rules items mark
       → HaveCome rules (items ++ RefusedItem r ∷ []) mark
   come_refused items r mark it f member =
       let is : instance_of (session (items ++ RefusedItem r ∷ [])) ≡ instance_of (session items) =
@@ -180,7 +180,7 @@ module _ (rules : Declaration) where
       )
 
   -- with an early finish
-  come_finish : (items : List Item) (e : EarlyFinish) → IsValid (instance_of (session items))
+  pub come_finish : (items : List Item) (e : EarlyFinish) → IsValid (instance_of (session items))
       → Finishes (session items) e → HaveCome rules items e.at
       → HaveCome rules (items ++ FinishItem e ∷ []) e.at
   come_finish items e valid says it = λ f member. by_member f
