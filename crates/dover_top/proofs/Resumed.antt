@@ -1,7 +1,7 @@
 -- What stands of a feed so far that was served on behind its snapshot.
 use Rattle.std.proofs.Common.{◌≡◌, ℕ, List, [], ◌∷◌, ◌++◌, append-nil, sym, ap, ◌∙◌, subst, inl, inr, cond, fold}
 use Rattle.dover_model.specs.declared.events.Task.{Task}
-use Rattle.dover_model.specs.Common.{due, lines_of, whole_lines, rest_of, Begins}
+use Rattle.dover_model.specs.Common.{Item, due, lines_of, whole_lines, rest_of, Begins}
 use Rattle.dover_model.specs.Lines.{is_too_long}
 use Rattle.dover_model.proofs.lists.Tests.{never}
 use Rattle.dover_port.specs.Moves.{Move, ins, outs, has_ended}
@@ -23,26 +23,28 @@ use Rattle.dover_top.proofs.SoFar.{agrees, answer_has, begins_two, decided_text,
 
 module _ (F H : List ℕ) (may : MayPause F) where
   -- the lines of a snapshot are taken
-  lines_taken : (h : Head) (ts : List Task) → IsWhole h ts (whole_lines (snapshot F))
-      → reading_of (lines_of (snapshot F)) ≡ Taken h ts
-  lines_taken h ts whole = reading_behind (whole_lines (snapshot F)) more ∙ ap (λ r. fold next_line r more) whole.reads
-      ∙ taken_stays h ts more where
+  lines_taken : (h : Head) (items : List Item) (ts : List Task) → IsWhole h items ts (whole_lines (snapshot F))
+      → reading_of (lines_of (snapshot F)) ≡ Taken h items ts
+  lines_taken h items ts whole = reading_behind (whole_lines (snapshot F)) more
+      ∙ ap (λ r. fold next_line r more) whole.reads
+      ∙ taken_stays h items ts more where
         more : List (List ℕ)
         more = cond (is_too_long (rest_of (snapshot F))) (rest_of (snapshot F) ∷ []) []
 
   -- whatever follows
-  taken : (h : Head) × (ts : List Task) × (reading_of (lines_of (snapshot F ++ H)) ≡ Taken h ts)
+  taken : (h : Head) × (items : List Item) × (ts : List Task)
+      × (reading_of (lines_of (snapshot F ++ H)) ≡ Taken h items ts)
   taken = let it = snapshot_whole F may in
-      (it.0, it.1.0, taken_on (snapshot F) H it.0 it.1.0 (lines_taken it.0 it.1.0 it.1.1))
+      (it.0, it.1, it.2, taken_on (snapshot F) H it.0 it.1 it.2 (lines_taken it.0 it.1 it.2 it.3))
 
   module _ (moves : List Move) (read : ins moves ≡ snapshot F ++ H) where
-    all_taken : reading_of (lines_of (ins moves)) ≡ Taken taken.0 taken.1.0
-    all_taken = ap (λ x. reading_of (lines_of x)) read ∙ taken.1.1
+    all_taken : reading_of (lines_of (ins moves)) ≡ Taken taken.0 taken.1 taken.2
+    all_taken = ap (λ x. reading_of (lines_of x)) read ∙ taken.3
 
     -- so none is refused, and none is missing
     unrefused : (at : ℕ) → IsRefusedFor at moves → ⊥
     unrefused at (inl (front, begins, refused)) =
-        let clash : reading.Refused at ≡ Taken taken.0 taken.1.0 = sym (refused_on front begins.0 at refused)
+        let clash : reading.Refused at ≡ Taken taken.0 taken.1 taken.2 = sym (refused_on front begins.0 at refused)
         ∙ ap (λ x. reading_of (lines_of x)) (sym begins.1) ∙ all_taken in
         absurd cc
     unrefused at (inr (ended, part, is)) = never (sym (ap is_part all_taken) ∙ part)

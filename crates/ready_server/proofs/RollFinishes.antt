@@ -183,12 +183,6 @@ module _ (J : Instance) (valid : IsValid J) (mark : ℕ) where
       ∙ ap (λ (y : Step). p.finishes ++ places (length p.jobs) (cons_option (handed_by y) (filter_map handed_by xs)))
       (sym path.0)
 
-  -- the early finishes are those of the steps
-  pub finishes_of : (z : State) (xs : List Step) → IsOpenPath J.rules mark (opening J.jobs) xs z
-      → (roll_of (printed_of xs)).finishes ≡ places 0 (filter_map handed_by xs)
-  finishes_of z xs path =
-      path_more xs (opening J.jobs) z empty_roll (opening_keeps J) path (opening_follows J valid mark)
-
 -- ---- how many they are
 
 -- jobs that are over
