@@ -9,3 +9,4 @@ pub mod Underload
 pub mod OneProcessor
 pub mod Sure
 pub mod Once
+pub mod Balance

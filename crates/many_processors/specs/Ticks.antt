@@ -31,6 +31,18 @@ is_preempt_of n (Prints q e) = processor.is_preempt_of n (single.Prints e)
 is_preempt_of n (Waits other) = false
 is_preempt_of n Ticks = false
 
+-- a job begins or goes on at a free processor
+abbrev pub is_run : Move → Bool
+is_run (Prints q e) = processor.is_run (single.Prints e)
+is_run (Waits n) = false
+is_run Ticks = false
+
+-- a job is completed
+abbrev pub is_complete : Move → Bool
+is_complete (Prints q e) = processor.is_complete (single.Prints e)
+is_complete (Waits n) = false
+is_complete Ticks = false
+
 -- the tick is in the job's window
 abbrev pub crosses : ℕ → JobFacts → Bool
 crosses t j = nat_le j.release t && nat_lt t j.deadline

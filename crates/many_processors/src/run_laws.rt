@@ -12,7 +12,7 @@ ghost use Rattle.many_processors.specs.Run.{run, ran, printed, printed_on, compl
 ghost use Rattle.many_processors.specs.Schedules.{IsFor, is_named, worth};
 ghost use Rattle.many_processors.specs.Books.{given_at};
 ghost use Rattle.many_processors.specs.Ticks.{SomeRunsOn, AreDifferent, FewAtOnce, takes_or_abandons};
-ghost use Rattle.many_processors.specs.Ticks.{is_preempt_of};
+ghost use Rattle.many_processors.specs.Ticks.{is_preempt_of, is_run, is_complete};
 ghost use Rattle.many_processors.specs.Observed.{observed, end_state};
 
 /// - `sound_opening`, `sound_steps`: the opening is sound as each processor sees it, and each step of a valid instance
@@ -21,6 +21,7 @@ ghost use Rattle.many_processors.specs.Observed.{observed, end_state};
 /// - `ends`: a run comes to its end, within a tick each up to the last deadline and five steps for each job.
 /// - `few_steps`: at most five steps for each job are printed, and End.
 /// - `preempts_once`: over a run a job preempts once at most.
+/// - `as_many_runs`: as often as a job is completed, one begins or goes on at a free processor.
 /// - `few_at_once`: each tick of a run is given to at most as many jobs as there are processors.
 /// - `no_job_twice`: no tick is given to a job twice, so none runs on two processors at once.
 /// - `in_window`: each tick that a job has is one of its window, from its release to its deadline.
@@ -41,6 +42,8 @@ pub fn laws_of_runs()
         → length (printed processors J) ≤ 5 * length J.jobs + 1 }
     ensures preempts_once { (processors : ℕ) (J : Instance) (n : ℕ) → 1 ≤ processors → IsValid J
         → count_by (λ x. is_preempt_of n x.move) (run processors J) ≤ 1 }
+    ensures as_many_runs { (processors : ℕ) (J : Instance) → 1 ≤ processors → IsValid J
+        → count_by (λ x. is_run x.move) (run processors J) ≡ count_by (λ x. is_complete x.move) (run processors J) }
     ensures few_at_once { (processors : ℕ) (J : Instance) → 1 ≤ processors → IsValid J
         → IsFor processors (ran processors J) }
     ensures no_job_twice { (processors : ℕ) (J : Instance) → 1 ≤ processors → IsValid J

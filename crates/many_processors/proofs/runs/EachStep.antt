@@ -1,13 +1,14 @@
 -- What holds of each step from a state of a run, what a run carries to its end, and what is so in each tick.
-use Rattle.std.proofs.Common.{◌≡◌, ℕ, suc, zero, ◌≤◌, ◌<◌, ◌⊎◌, inl, inr, List, [], map, refl, sym, ap, ◌∙◌, subst}
+use Rattle.std.proofs.Common.{◌≡◌, ℕ, suc, zero, ◌+◌, ◌≤◌, ◌<◌, ◌⊎◌, inl, inr, List, [], map, refl, sym, ap, ◌∙◌, subst}
 use Rattle.std.proofs.Common.{Bool, true, false, None}
-use Rattle.std.specs.List.{list_all}
+use Rattle.std.specs.List.{list_all, count_by}
+use Rattle.std.proofs.lemmas.List.Sums.{sum_by-cons}
 use Rattle.dover_model.specs.declared.events.Event.TheVariants.{Run, Preempt, Take, Complete, Abandon, End, Release}
 use Rattle.dover_model.specs.declared.events.Task.{Task}
 use Rattle.dover_model.specs.declared.events.Role.TheVariants.{Fresh, Waiting, Held, Running}
 use Rattle.dover_model.specs.Fraction.{Fraction}
 use Rattle.dover_model.specs.Common.{Rules, Instance, IsValid, View, is_privileged, is_ready_behind, IsMember, Each}
-use Rattle.dover_model.specs.Common.{NoneRuns, is_complete, is_over}
+use Rattle.dover_model.specs.Common.{NoneRuns, is_complete, is_over, one_if}
 use Rattle.dover_model.specs.Step as single
 use Rattle.dover_model.proofs.lists.Tests.{never}
 use Rattle.dover_model.proofs.lists.Members.{map_member}
@@ -156,3 +157,25 @@ module _ (processors : ℕ) (J : Instance) (valid : IsValid J) (some : 1 ≤ pro
     busy_where_one_is_held p member held own = busy_where_seen p.task
         (subst (λ t. IsMember t (map (seen_by q) s.jobs)) (own_seen q p own) (map_member (seen_by q) s.jobs p member))
         (inr (passes is_ready_behind p.task Held true held refl))
+
+-- ---- how many steps pass a test
+
+module _ (processors : ℕ) (J : Instance) where
+  -- so many of these
+  abbrev pub counted : (Move → Bool) → List many.Step → ℕ
+  counted test xs = count_by (λ x. test x.move) xs
+
+  -- the step of a state
+  abbrev pub step_of : State → Move
+  step_of s = step processors J.rules s
+
+  -- the steps behind the first
+  abbrev pub others : Bool → ℕ → State → List many.Step
+  others b more s = elim b [ true ↦ [] | false ↦ run_from processors J.rules more (after s (step_of s)) ]
+
+  -- the first and the others
+  pub first_counted : (test : Move → Bool) (more : ℕ) (s : State)
+      → counted test (run_from processors J.rules (suc more) s)
+      ≡ one_if (test (step_of s)) + counted test (others (is_end (step_of s)) more s)
+  first_counted test more s = sum_by-cons (λ (x : many.Step). one_if (test x.move))
+      (record { before = s; move = step_of s }) (others (is_end (step_of s)) more s)

@@ -1,9 +1,7 @@
 -- Over a run a job preempts once at most.
-use Rattle.std.proofs.Common.{◌≡◌, ℕ, suc, zero, ◌+◌, ◌≤◌, ◌⊎◌, inl, inr, List, [], map, refl, sym, ap, ◌∙◌, subst}
+use Rattle.std.proofs.Common.{◌≡◌, ℕ, suc, zero, ◌+◌, ◌≤◌, ◌⊎◌, inl, inr, List, map, refl, sym, ap, ◌∙◌, subst}
 use Rattle.std.proofs.Common.{Bool, true, false, cond, arith, eqb, eqb-true, eq-eqb}
-use Rattle.std.specs.List.{count_by}
 use Rattle.std.proofs.lemmas.Bool.{false_from_ne_true}
-use Rattle.std.proofs.lemmas.List.Sums.{sum_by-cons}
 use Rattle.dover_model.specs.declared.events.Event.{Event}
 use Rattle.dover_model.specs.declared.events.Event.TheVariants.{Run, Preempt, Take, Complete, Abandon, End, Release}
 use Rattle.dover_model.specs.declared.events.Role.{Role}
@@ -23,6 +21,7 @@ use Rattle.many_processors.specs.Run.{run_from, run, enough, is_end}
 use Rattle.many_processors.specs.Sound.{Keeps}
 use Rattle.many_processors.specs.Ticks.{is_preempt_of}
 use Rattle.many_processors.proofs.books.TickSteps.{tick_plain}
+use Rattle.many_processors.proofs.runs.EachStep.{counted, step_of, others, first_counted}
 use Rattle.many_processors.proofs.steps.Cases as cases
 use Rattle.many_processors.proofs.steps.Cases.{StepCase, step_case}
 use Rattle.many_processors.proofs.steps.Placing.{seen_member}
@@ -159,20 +158,9 @@ preempt_decides n s (Waits k) e = never e
 preempt_decides n s Ticks e = never e
 
 module _ (processors : ℕ) (J : Instance) (valid : IsValid J) (some : 1 ≤ processors) (n : ℕ) where
+  -- so many are preemptions by it
   abbrev preempts_in : List many.Step → ℕ
-  preempts_in xs = count_by (λ x. is_preempt_of n x.move) xs
-
-  abbrev step_of : State → Move
-  step_of s = step processors J.rules s
-
-  -- the steps behind the first
-  abbrev others : Bool → ℕ → State → List many.Step
-  others b more s = elim b [ true ↦ [] | false ↦ run_from processors J.rules more (after s (step_of s)) ]
-
-  first_counted : (more : ℕ) (s : State) → preempts_in (run_from processors J.rules (suc more) s)
-      ≡ one_if (is_preempt_of n (step_of s)) + preempts_in (others (is_end (step_of s)) more s)
-  first_counted more s = sum_by-cons (λ (x : many.Step). one_if (is_preempt_of n x.move))
-      (record { before = s; move = step_of s }) (others (is_end (step_of s)) more s)
+  preempts_in xs = counted processors J (is_preempt_of n) xs
 
   -- a job that is decided on preempts no more
   none_more : (more : ℕ) (s : State) → Keeps processors J s → IsDecided n s
@@ -180,42 +168,46 @@ module _ (processors : ℕ) (J : Instance) (valid : IsValid J) (some : 1 ≤ pro
   none_more zero s keeps decided = refl
   none_more (suc more) s keeps decided =
       let it = step_early processors J valid some n s keeps decided in
-      let none : one_if (is_preempt_of n (step_of s)) ≡ 0 =
-      ap one_if (false_from_ne_true (is_preempt_of n (step_of s)) it.1) in
+      let none : one_if (is_preempt_of n (step_of processors J s)) ≡ 0 =
+      ap one_if (false_from_ne_true (is_preempt_of n (step_of processors J s)) it.1) in
       omega (
         arith,
-        first_counted more s,
+        first_counted processors J (is_preempt_of n) more s,
         none,
-        by_end (is_end (step_of s))
-            (none_more more (after s (step_of s)) (step_kept processors J valid some J.rules s keeps)
-            (stays_decided n s (step_of s) it.0 decided)),
+        by_end (is_end (step_of processors J s))
+            (none_more more (after s (step_of processors J s)) (step_kept processors J valid some J.rules s keeps)
+            (stays_decided n s (step_of processors J s) it.0 decided)),
       ) where
-        by_end : (b : Bool) → preempts_in (run_from processors J.rules more (after s (step_of s))) ≡ 0
-            → preempts_in (others b more s) ≡ 0
+        by_end : (b : Bool) → preempts_in (run_from processors J.rules more (after s (step_of processors J s))) ≡ 0
+            → preempts_in (others processors J b more s) ≡ 0
         by_end true rest = refl
         by_end false rest = rest
 
   once : (more : ℕ) (s : State) → Keeps processors J s → preempts_in (run_from processors J.rules more s) ≤ 1
   once zero s keeps = omega arith
-  once (suc more) s keeps = by_test (is_preempt_of n (step_of s)) refl (first_counted more s)
-      (by_end (is_end (step_of s)) (once more (after s (step_of s)) next)) where
-        next : Keeps processors J (after s (step_of s))
+  once (suc more) s keeps = by_test (is_preempt_of n (step_of processors J s)) refl
+      (first_counted processors J (is_preempt_of n) more s)
+      (by_end (is_end (step_of processors J s)) (once more (after s (step_of processors J s)) next)) where
+        next : Keeps processors J (after s (step_of processors J s))
         next = step_kept processors J valid some J.rules s keeps
 
-        by_end : (b : Bool) → preempts_in (run_from processors J.rules more (after s (step_of s))) ≤ 1
-            → preempts_in (others b more s) ≤ 1
+        by_end : (b : Bool) → preempts_in (run_from processors J.rules more (after s (step_of processors J s))) ≤ 1
+            → preempts_in (others processors J b more s) ≤ 1
         by_end true rest = omega arith
         by_end false rest = rest
 
-        no_more : (b : Bool) → is_preempt_of n (step_of s) ≡ true → preempts_in (others b more s) ≡ 0
+        no_more : (b : Bool) → is_preempt_of n (step_of processors J s) ≡ true
+            → preempts_in (others processors J b more s) ≡ 0
         no_more true e = refl
-        no_more false e = none_more more (after s (step_of s)) next (preempt_decides n s (step_of s) e)
+        no_more false e = none_more more (after s (step_of processors J s)) next
+            (preempt_decides n s (step_of processors J s) e)
 
-        by_test : (b : Bool) → is_preempt_of n (step_of s) ≡ b → preempts_in (run_from processors J.rules (suc more) s)
-            ≡ one_if b + preempts_in (others (is_end (step_of s)) more s)
-            → preempts_in (others (is_end (step_of s)) more s) ≤ 1
+        by_test : (b : Bool) → is_preempt_of n (step_of processors J s) ≡ b
+            → preempts_in (run_from processors J.rules (suc more) s)
+            ≡ one_if b + preempts_in (others processors J (is_end (step_of processors J s)) more s)
+            → preempts_in (others processors J (is_end (step_of processors J s)) more s) ≤ 1
             → preempts_in (run_from processors J.rules (suc more) s) ≤ 1
-        by_test true e all low = omega (arith, all, no_more (is_end (step_of s)) e)
+        by_test true e all low = omega (arith, all, no_more (is_end (step_of processors J s)) e)
         by_test false e all low = omega (arith, all, low)
 
   -- a job preempts once at most
