@@ -67,7 +67,8 @@ module _ (v w processors : ℕ) (some : 1 ≤ processors) (J : Instance) (valid 
       → Holds ran s → HasEnd (run_from processors J.rules more s)
       → Outcome processors J Holds ran (run_from processors J.rules more s)
   outcome = outcomes.outcome processors some J valid Holds (λ ran s keeps holds.
-      let the_case = step_case J.rules s (all_seen processors J.rules.version s) (each_sees processors J.rules.version s) in (
+      let the_case = step_case J.rules s (all_seen processors J.rules.version s)
+      (each_sees processors J.rules.version s) in (
         step_booked J.rules some_q above v w processors some J valid modest_jobs ran s keeps holds.0
             (λ p member. omega (arith, (holds.1.each p member).had)) (step processors J.rules s) the_case,
         step_gave processors some J valid ran s keeps holds.1 (step processors J.rules s) the_case,
@@ -341,7 +342,8 @@ module _ (v w processors : ℕ) (some : 1 ≤ processors) (J : Instance) (valid 
           (subst (IsWithinTimes times J.rules.ratio (sum_by (earned_by needs schedule) (numbered J) - extra)) completed
           (had_bound J.rules.ratio v w processors (numbered J) ran are_books times some_times schedule few needs
           gone_needs taken_needs extra
-          (subst (λ c. (2 * J.rules.ratio.q - J.rules.ratio.p) * c ≤ 2 * J.rules.ratio.q * extra) (sym completed) much)))
+          (subst (λ c. (2 * J.rules.ratio.q - J.rules.ratio.p) * c ≤ 2 * J.rules.ratio.q * extra)
+          (sym completed) much)))
 
   -- ---- the opening
 
@@ -424,7 +426,8 @@ module _ (v w processors : ℕ) (some : 1 ≤ processors) (J : Instance) (valid 
       (sym (out.is_last (opening J.jobs)))
       (subst (IsWithinTimes times J.rules.ratio
       (worth (enumerate_from 0 (map observing (tasks_of out.last.jobs))) schedule - extra)) (sym out.value)
-      (observed_bound out.last out.ran out.keeps out.holds.0 out.over some_work out.holds.1 extra times some_times schedule
+      (observed_bound out.last out.ran out.keeps out.holds.0 out.over some_work out.holds.1 extra times some_times
+      schedule
       few (subst (λ c. (2 * J.rules.ratio.q - J.rules.ratio.p) * c ≤ 2 * J.rules.ratio.q * extra) out.value much)))
 
 -- the books of a run that ends, with the ticks that it gives
@@ -439,14 +442,16 @@ run_books processors J some valid ends j least =
     (job_limits (all_member IsJob J.jobs (valid_parts valid).each j least.job)).work)
 
 -- no schedule of so many times as many processors is worth more than so many times the bound of what the run completes
-pub run_bound : (times processors : ℕ) (J : Instance) (schedule : List (List ℕ)) → 1 ≤ times → 1 ≤ processors → IsValid J
+pub run_bound : (times processors : ℕ) (J : Instance) (schedule : List (List ℕ)) → 1 ≤ times → 1 ≤ processors
+    → IsValid J
     → HasEnd (run processors J) → IsFor (times * processors) schedule
     → IsWithinTimes times J.rules.ratio (worth (numbered J) schedule) (completed_value processors J)
 run_bound times processors J schedule some_times some valid ends few = by_jobs (some_least J valid) where
   by_jobs : (J.jobs ≡ []) ⊎ ((j : JobFacts) × IsLeastDense J j)
       → IsWithinTimes times J.rules.ratio (worth (numbered J) schedule) (completed_value processors J)
   by_jobs (inr it) = bound_by it.0.value it.0.work processors some J valid (least_modest J valid it.0 it.1)
-      (job_limits (all_member IsJob J.jobs (valid_parts valid).each it.0 it.1.job)).work ends times some_times schedule few
+      (job_limits (all_member IsJob J.jobs (valid_parts valid).each it.0 it.1.job)).work ends times some_times
+      schedule few
   by_jobs (inl none) = bound_by 0 1 processors some J valid
       (λ i member. absurd (subst (IsMember i) none member)) (omega arith) ends times some_times schedule few
 

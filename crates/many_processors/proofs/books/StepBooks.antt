@@ -46,7 +46,8 @@ use Rattle.many_processors.proofs.steps.Stepping.{real, same_job}
 use Rattle.many_processors.proofs.runs.EachStep.{is_tick, no_tick}
 use Rattle.many_processors.proofs.runs.Outcomes.{ran_after}
 use Rattle.many_processors.proofs.steps.Turns.{which, running_job, all_quiet, of_tasks}
-use Rattle.many_processors.proofs.books.Booked.{own_sum, seen_value, value_of, number_and_job, Taker, comes_to, Booked, Open, shut, is_excused}
+use Rattle.many_processors.proofs.books.Booked.{own_sum, seen_value, value_of, number_and_job, Taker, comes_to}
+use Rattle.many_processors.proofs.books.Booked.{Booked, Open, shut, is_excused}
 use Rattle.many_processors.proofs.books.MovedSteps.{off_booked, same_booked, run_booked, at_one, on_each}
 use Rattle.many_processors.proofs.books.TakenSteps.{preempt_booked, take_booked}
 use Rattle.many_processors.proofs.books.OverSteps.{gone_booked, busy_before, busy_over}
@@ -149,8 +150,14 @@ module _ (k : Fraction) (some_q : 1 ≤ k.q) (ratio : k.q ≤ k.p) (v w processo
           (λ t. refl) (λ t. refl) booked.way (at_one x.owner shut booked.way) booked.fell end_calm
           booked.taken booked.gone over refl refl (asked e) τ was)
           (omega (arith, ap (λ n. v * n) (sum_by-cons (λ (o : Over). o.had) over booked.taken)))
-          (each_cons (λ o. TakenIn v w o × (o.at ≤ s.clock) × (o.had ≤ ticks_given ran o.number o.job)) over booked.taken (
-            record { at_most_work = had_most s keeps.sound x x_member; reach = reach; work_paid = (modest x x_member).1 },
+          (each_cons (λ o. TakenIn v w o × (o.at ≤ s.clock) ×
+          (o.had ≤ ticks_given ran o.number o.job)) over booked.taken (
+            record {
+              at_most_work = had_most s keeps.sound x x_member;
+              reach = reach;
+              work_paid =
+                  (modest x x_member).1;
+            },
             omega arith,
             had_given x x_member,
           )
@@ -357,8 +364,10 @@ module _ (rules : Rules) (some_q : 1 ≤ rules.ratio.q) (above : rules.ratio.q �
       subst (λ (y : Move). Booked rules.ratio v w processors ran (after s y))
       (ap (λ n. Prints q.processor (Abandon q.view.clock n)) (ap (λ (t : Task). t.number) x.2) ∙ sym it.is)
       (gone_booked rules.ratio v w processors ran J s booked keeps
-      (one_job rules.ratio some_q above v w processors some J valid modest_jobs ran s keeps booked had_given) true x.0 x.1 is_w now
-      (modest rules.ratio some_q above v w processors some J valid modest_jobs ran s keeps booked had_given x.0 x.1).0 all_light) where
+      (one_job rules.ratio some_q above v w processors some J valid modest_jobs ran s keeps booked had_given) true
+      x.0 x.1 is_w now
+      (modest rules.ratio some_q above v w processors some J valid modest_jobs ran s keeps booked had_given x.0
+      x.1).0 all_light) where
         is_seen : (q ≡ seen rules.version s q.processor) × (q.processor < processors)
         is_seen = which processors J valid some rules s keeps q member
 
@@ -446,11 +455,13 @@ module _ (rules : Rules) (some_q : 1 ≤ rules.ratio.q) (above : rules.ratio.q �
       (subst (λ (r : Seen). r.view.running ≡ Some t) i.0 is_served) in
       subst (λ (u : Task). Booked rules.ratio v w processors ran
       (after s (Prints q.processor (Complete q.view.clock u.number)))) x.2
-      (done_booked rules.ratio some_q above v w processors some J valid modest_jobs ran s keeps booked had_given _ x.0 x.1
+      (done_booked rules.ratio some_q above v w processors some J valid modest_jobs ran s keeps booked had_given _
+      x.0 x.1
       (passes is_privileged x.0.task Running true x.3 refl))
   case_booked m (cases.Acted q member n acts going decided) =
       let i = which processors J valid some rules s keeps q member in
-      by_move m (acts_booked rules.ratio some_q above v w processors some J valid modest_jobs ran s keeps booked had_given
+      by_move m (acts_booked rules.ratio some_q above v w processors some J valid modest_jobs ran s keeps booked
+      had_given
       (all_left processors s rules.version keeps.sound keeps.placed going) q.processor i.1 rules refl m
       (subst (λ r. cases.Acts rules.ratio r false m) i.0 acts)) (not_tick q m acts) where
         not_tick : (q : Seen) → (m : Move) → cases.Acts rules.ratio q false m → m ≡ Ticks → ⊥

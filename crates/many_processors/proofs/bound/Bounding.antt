@@ -33,11 +33,13 @@ use Rattle.many_processors.proofs.bound.Summing.{works_fit}
 parts_most : (times p q x v w usual served other spare lost aside rest work sure ticks had other_had r d e y : ℕ)
     → 1 ≤ w → usual ≤ r → lost ≤ e → work + sure ≤ times * ticks
     → v * ticks ≤ w * (r + d + spare) + v * (had + other_had) → v * other_had ≤ w * other
-    → 2 * (q * (w * served) + times * p * (v * had)) ≤ 2 * (times * p * (w * served) + p * (v * sure)) + x * (w * served)
+    → 2 * (q * (w * served) + times * p * (v * had)) ≤ 2 * (times * p * (w * served) + p * (v * sure)) + x *
+    (w * served)
     → q * w * rest ≤ p * v * work → aside ≤ times * (r + (served + other + spare)) + y
     → 2 * (q * (usual + served + lost + (aside + rest)))
     ≤ 2 * (times * ((p + q) * (r + (served + other + spare))) + (q * r + times * (p * d) + q * e + q * y)) + x * served
-parts_most times p q x v w usual served other spare lost aside rest work sure ticks had other_had r d e y some low few fit
+parts_most times p q x v w usual served other spare lost aside rest work sure ticks had other_had r d e y some low
+    few fit
     paid own pays dense little =
     let fit_times : p * v * (work + sure) ≤ p * v * (times * ticks) = mul-le-mul_left (p * v) fit in
     let paid_times : times * p * (v * ticks) ≤ times * p * (w * (r + d + spare) + v * (had + other_had)) =
@@ -48,11 +50,13 @@ parts_most times p q x v w usual served other spare lost aside rest work sure ti
     let aside_times : w * q * aside ≤ w * q * (times * (r + (served + other + spare)) + y) =
     mul-le-mul_left (w * q) little in
     cancel w (2 * (q * (usual + served + lost + (aside + rest))))
-    (2 * (times * ((p + q) * (r + (served + other + spare))) + (q * r + times * (p * d) + q * e + q * y)) + x * served) some
+    (2 * (times * ((p + q) * (r + (served + other + spare))) + (q * r + times *
+    (p * d) + q * e + q * y)) + x * served) some
     (omega (arith, fit_times, paid_times, own_times, pays, usual_times, lost_times, aside_times, dense))
 
 -- so they are but for so much more
-but_for : (q x o extra served all most : ℕ) → 2 * (q * o) ≤ 2 * most + x * served → served ≤ all → x * all ≤ 2 * q * extra
+but_for : (q x o extra served all most : ℕ) → 2 * (q * o) ≤ 2 * most + x * served → served ≤ all
+    → x * all ≤ 2 * q * extra
     → q * (o - extra) ≤ most
 but_for q x o extra served all most sum part more =
     let times : x * served ≤ x * all = mul-le-mul_left x part in
@@ -75,7 +79,8 @@ earned_by needs s n_j = cond (nat_le (needs n_j) (ticks_given s n_j.0 n_j.1)) n_
 
 -- values that pay for more, added up
 sum_pays : (q m p x v w : ℕ) {X : Type 0} (value had sure : X → ℕ) (xs : List X)
-    → Each (λ u. 2 * (q * (w * value u) + m * (v * had u)) ≤ 2 * (m * (w * value u) + p * (v * sure u)) + x * (w * value u)) xs
+    → Each (λ u. 2 * (q * (w * value u) + m * (v * had u)) ≤ 2 * (m * (w * value u) + p * (v * sure u)) + x *
+    (w * value u)) xs
     → 2 * (q * (w * sum_by value xs) + m * (v * sum_by had xs))
     ≤ 2 * (m * (w * sum_by value xs) + p * (v * sum_by sure xs)) + x * (w * sum_by value xs)
 sum_pays q m p x v w value had sure [] all = omega arith
@@ -220,7 +225,8 @@ module _ (k : Fraction) (v w : ℕ) (processors : ℕ) (jobs : List Job) (ran : 
 
   -- their values pay for the ticks that they had
   unserved_paid : v * unserved (λ o. o.had) ≤ w * unserved (λ o. o.job.value)
-  unserved_paid = scaled_sum v w (λ (o : Over). cond (serves o) 0 o.had) (λ o. cond (serves o) 0 o.job.value) books.taken
+  unserved_paid = scaled_sum v w (λ (o : Over). cond (serves o) 0 o.had) (λ o. cond
+      (serves o) 0 o.job.value) books.taken
       (λ o member. by_test (serves o) o.had o.job.value (had_paid v w o (books.taken_are o member))) where
         by_test : (b : Bool) (had value : ℕ) → v * had ≤ w * value → v * cond b 0 had ≤ w * cond b 0 value
         by_test true had value paid = omega arith
@@ -348,7 +354,8 @@ module _ (k : Fraction) (v w : ℕ) (processors : ℕ) (jobs : List Job) (ran : 
   needs_bound = subst (IsWithinTimes times k (sum_by earns jobs - extra)) (sym completed_parts)
       (within_times k books.some_q books.ratio times some_times (sum_by earns jobs - extra) regular_all taken_all
       displaced_all first_all above_all most
-      (twice_sum k books.some_q books.ratio (λ (i : Interval). i.displaced) (λ i. i.first) (λ i. i.taken) books.intervals
+      (twice_sum k books.some_q books.ratio (λ (i : Interval). i.displaced) (λ i. i.first)
+      (λ i. i.taken) books.intervals
       books.displaced) little)
 
 -- ---- what a job needs
@@ -375,7 +382,8 @@ pays_had zero p q v w value work had needs some most enough paid = absurd (omega
 pays_had (suc n) p q v w value work had needs some most enough paid = by_sure (needs - (work - had))
     (omega (arith, most, enough)) (2 * q - p) (omega arith) where
       by_sure : (sure : ℕ) → 2 * had ≤ work + 2 * sure → (x : ℕ) → 2 * q ≤ p + x
-          → 2 * (q * (w * value) + suc n * p * (v * had)) ≤ 2 * (suc n * p * (w * value) + p * (v * sure)) + x * (w * value)
+          → 2 * (q * (w * value) + suc n * p * (v * had)) ≤ 2 * (suc n * p * (w * value) + p * (v * sure)) + x *
+          (w * value)
       by_sure sure half x double =
           let less : v * had ≤ v * work = mul-le-mul_left v most in
           let all : n * p * (v * had) ≤ n * p * (w * value) = mul-le-mul_left (n * p) (omega (arith, less, paid)) in

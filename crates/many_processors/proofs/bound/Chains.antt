@@ -72,12 +72,14 @@ below_times m times x a below =
 
 -- the parts by a factor c + e over c, where m is at least q·e and so many times p·c
 linear_times : (times p q c e m o r z d y : ℕ) → q * e ≤ m → times * (p * c) ≤ m
-    → q * o ≤ times * ((p + q) * (r + z)) + (q * r + times * (p * d) + q * y) → e * d ≤ c * z → c * y ≤ e * (times * (r + z))
+    → q * o ≤ times * ((p + q) * (r + z)) + (q * r + times * (p * d) + q * y) → e * d ≤ c * z
+    → c * y ≤ e * (times * (r + z))
     → q * c * e * o ≤ (times * (q * (c + e) * e + p * c * e) + c * m) * (r + z)
 linear_times times p q c e m o r z d y one other most paid little =
     let all : (c * e) * (q * o) ≤ (c * e) * (times * ((p + q) * (r + z)) + (q * r + times * (p * d) + q * y)) =
     mul-le-mul_left (c * e) most in
-    let displaced : (times * (p * c)) * (e * d) ≤ (times * (p * c)) * (c * z) = mul-le-mul_left (times * (p * c)) paid in
+    let displaced : (times * (p * c)) * (e * d) ≤ (times * (p * c)) * (c * z) = mul-le-mul_left (times *
+    (p * c)) paid in
     let single : (q * e) * (c * y) ≤ (q * e) * (e * (times * (r + z))) = mul-le-mul_left (q * e) little in
     let regular : (c * r) * (q * e) ≤ (c * r) * m = mul-le-mul_left (c * r) one in
     let taken : (c * z) * (times * (p * c)) ≤ (c * z) * m = mul-le-mul_left (c * z) other in
@@ -111,7 +113,8 @@ module _ (k : Fraction) (some_q : 1 ≤ k.q) (ratio : k.q ≤ k.p) (times : ℕ)
         subst (λ b. k.q * f.c * (f.b - f.c) * c
         ≤ (times * (k.q * b * (f.b - f.c) + k.p * f.c * (f.b - f.c))
         + f.c * max (k.q * (f.b - f.c)) (times * (k.p * f.c))) * (r + z)) whole
-        (linear_times times k.p k.q f.c (f.b - f.c) (max (k.q * (f.b - f.c)) (times * (k.p * f.c))) c r z d y (le-max_left _ _) (le-max_right _ _) most paid
+        (linear_times times k.p k.q f.c (f.b - f.c) (max (k.q * (f.b - f.c)) (times * (k.p * f.c))) c r z d y
+        (le-max_left _ _) (le-max_right _ _) most paid
         little)
 
   -- what is so far above what is done as usual and taken, with what was displaced, that by first takes besides, and
@@ -131,8 +134,10 @@ module _ (k : Fraction) (some_q : 1 ≤ k.q) (ratio : k.q ≤ k.p) (times : ℕ)
 bound_by : (times : ℕ) → 1 ≤ times → (k : Fraction) (o : Option Factor) (c a : ℕ) → IsWithinTimesBy times k o c a
     → IsTrue (is_within_by k o c (times * a))
 bound_by times some k None c a within = within
-bound_by times some k (Some f) c a within = (factor_agrees k f c (times * a)).1 (by_most (max (k.q * (f.b - f.c)) (k.p * f.c))
-    (le-max_left _ _) (le-max_right _ _) (max (k.q * (f.b - f.c)) (times * (k.p * f.c))) (λ u one other. max-le one other) within) where
+bound_by times some k (Some f) c a within = (factor_agrees k f c (times * a)).1 (by_most (max (k.q * (f.b - f.c))
+    (k.p * f.c))
+    (le-max_left _ _) (le-max_right _ _) (max (k.q * (f.b - f.c)) (times * (k.p * f.c)))
+    (λ u one other. max-le one other) within) where
       by_most : (m : ℕ) → k.q * (f.b - f.c) ≤ m → k.p * f.c ≤ m → (n : ℕ)
           → ((u : ℕ) → k.q * (f.b - f.c) ≤ u → times * (k.p * f.c) ≤ u → n ≤ u)
           → scale k f * c ≤ (times * (k.q * f.b * (f.b - f.c) + k.p * f.c * (f.b - f.c)) + f.c * n) * a

@@ -19,7 +19,8 @@ linear_add e m c c2 a a2 one other = omega (arith, one, other)
 add_by : (times : ℕ) (k : Fraction) (o : Option Factor) (c c2 a a2 : ℕ) → IsWithinTimesBy times k o c a
     → IsWithinTimesBy times k o c2 a2 → IsWithinTimesBy times k o (c + c2) (a + a2)
 add_by times k None c c2 a a2 one other =
-    subst (IsWithin (fraction k.p k.q) (c + c2)) (let same : times * a + times * a2 ≡ times * (a + a2) = omega arith in same)
+    subst (IsWithin (fraction k.p k.q) (c + c2)) (let same : times * a + times * a2 ≡ times *
+    (a + a2) = omega arith in same)
     (within_add (fraction k.p k.q) c c2 (times * a) (times * a2) one other)
 add_by times k (Some f) c c2 a a2 one other = linear_add (scale k f) (share_times times k f) c c2 a a2 one other
 
@@ -56,7 +57,8 @@ module _ (times : ℕ) (k : Fraction) (s : LaneSchedule) (few : Each (λ names. 
     (completed : Instance → ℕ) where
   -- where each lane completes its part of the bound, all together do
   pub lanes_within : (i : ℕ) (lanes : List Instance)
-      → Each (λ J. (part : List (List ℕ)) → IsFor times part → IsWithinTimes times k (worth (numbered J) part) (completed J))
+      → Each (λ J. (part : List (List ℕ)) → IsFor times part
+      → IsWithinTimes times k (worth (numbered J) part) (completed J))
       lanes
       → IsWithinTimes times k (worth_from i lanes s) (sum_by completed lanes)
   lanes_within i [] each = none_by times k k.factor

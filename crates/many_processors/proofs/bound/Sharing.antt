@@ -219,12 +219,13 @@ module _ (k : Fraction) (times : ℕ) (some_times : 1 ≤ times) (processors : �
 
   -- it is ready
   early_ready : (o : Over) → one (has_it_early o) ≤ one (is_ready o)
-  early_ready o = parts (is_named o.number numbers) (nat_le o.job.release τ) (nat_lt τ o.job.deadline) (nat_lt τ o.at) where
-    parts : (a b c d : Bool) → one ((a && (b && c)) && d) ≤ one (b && d)
-    parts true true true d = omega arith
-    parts true true false d = omega arith
-    parts true false c d = omega arith
-    parts false b c d = omega arith
+  early_ready o = parts (is_named o.number numbers) (nat_le o.job.release τ) (nat_lt τ o.job.deadline)
+      (nat_lt τ o.at) where
+        parts : (a b c d : Bool) → one ((a && (b && c)) && d) ≤ one (b && d)
+        parts true true true d = omega arith
+        parts true true false d = omega arith
+        parts true false c d = omega arith
+        parts false b c d = omega arith
 
   -- those that have it: of the taken ones before they are over
   abbrev asking : ℕ

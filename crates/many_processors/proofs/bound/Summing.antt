@@ -63,7 +63,8 @@ module _ (k : Fraction) (times : ℕ) (some_times : 1 ≤ times) (processors : �
     (taken_reach o member).0,
     (taken_reach o member).1,
   ) where
-    either : (τ : ℕ) (a b c : Bool) → one (a && (b && c)) ≤ one ((a && (b && c)) && nat_lt τ o.at) + one (nat_le o.at τ && c)
+    either : (τ : ℕ) (a b c : Bool) → one (a && (b && c)) ≤ one ((a && (b && c)) && nat_lt τ o.at) + one
+        (nat_le o.at τ && c)
     either τ a b c = by_order (cases_lt τ o.at) where
       early : (a b c d : Bool) → d ≡ true → one (a && (b && c)) ≤ one ((a && (b && c)) && d)
       early true true true true e = omega arith
@@ -93,7 +94,8 @@ module _ (k : Fraction) (times : ℕ) (some_times : 1 ≤ times) (processors : �
   )
 
   -- each tick is shared
-  all_shared : total (λ τ numbers. sum_by (λ o. has_it_early o τ numbers) taken + sum_by (λ o. has_it o τ numbers) gone) 0 s
+  all_shared : total (λ τ numbers. sum_by (λ o. has_it_early o τ numbers) taken + sum_by
+      (λ o. has_it o τ numbers) gone) 0 s
       ≤ total (λ τ numbers. times * length (given_at ran τ) + sum_by (λ p. one (still_aside τ p)) aside.pairs) 0 s
   all_shared = total_le
       (λ τ numbers. sum_by (λ o. has_it_early o τ numbers) taken + sum_by (λ o. has_it o τ numbers) gone)

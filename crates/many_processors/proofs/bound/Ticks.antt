@@ -1,5 +1,6 @@
 -- Sums over the ticks of a schedule of several processors.
-use Rattle.std.proofs.Common.{◌≡◌, ℕ, suc, zero, ◌+◌, ◌-◌, ◌*◌, ◌≤◌, ◌<◌, ◌⊎◌, inl, inr, List, [], ◌∷◌, take, refl, sym, ap}
+use Rattle.std.proofs.Common.{◌≡◌, ℕ, suc, zero, ◌+◌, ◌-◌, ◌*◌, ◌≤◌, ◌<◌, ◌⊎◌, inl, inr, List, [], ◌∷◌, take, refl}
+use Rattle.std.proofs.Common.{sym, ap}
 use Rattle.std.proofs.Common.{Bool, true, false, cond, arith, nat_le, nat_lt, ◌&&◌, sum_by, drop, length}
 use Rattle.std.proofs.Common.{le-leb, lt-ltb, ◌∙◌, ◌++◌}
 use Rattle.std.specs.List.{count_by}

@@ -35,7 +35,8 @@ use Rattle.many_processors.specs.Run.{run_from, run, enough, is_end, event_of, p
 use Rattle.many_processors.specs.Sound.{Keeps}
 use Rattle.many_processors.proofs.steps.Seeing.{each_sees, below_numbers}
 use Rattle.many_processors.proofs.steps.Cases as cases
-use Rattle.many_processors.proofs.steps.Cases.{StepCase, step_case, open_case, IsQuiet, then_none, is_finished, is_run, is_take, NoneDue}
+use Rattle.many_processors.proofs.steps.Cases.{StepCase, step_case, open_case, IsQuiet, then_none, is_finished}
+use Rattle.many_processors.proofs.steps.Cases.{is_run, is_take, NoneDue}
 use Rattle.many_processors.proofs.books.Booked.{own_sum, value_of, seen_value}
 use Rattle.many_processors.proofs.steps.Placing.{seen_member, seen_own, off_seen, all_left, own_running}
 use Rattle.many_processors.proofs.steps.Stepping.{real, same_job}
@@ -255,7 +256,13 @@ module _ (processors : ℕ) (J : Instance) (valid : IsValid J) (some : 1 ≤ pro
         → (is_take m ≡ false)
         ⊎ ((j : ℕ) → j < processors → own_sum q.processor value_of s.jobs ≤ own_sum j value_of s.jobs)
     by_least (inl is) = inl is
-    by_least (inr least) = inr (λ j less. omega (arith, (least (seen J.rules.version s j) (see j less)).1, here, seen_value s j))
+    by_least (inr least) = inr (λ j less. omega (
+      arith,
+      (least (seen J.rules.version s j)
+          (see j less)).1,
+      here,
+      seen_value s j,
+    ))
 
   -- ---- a tick comes before the last deadline
 

@@ -61,7 +61,8 @@ use Rattle.many_processors.proofs.runs.Weighing.{fits_in, on_slack}
 -- ---- numbers
 
 -- what exceeds by little is not heavy
-little_by : (k : Fraction) (o : Option Factor) (v a y : ℕ) → a < v → v ≤ y + a → IsExcessBy k o y a → HeavyBy k o v a → ⊥
+little_by : (k : Fraction) (o : Option Factor) (v a y : ℕ) → a < v → v ≤ y + a → IsExcessBy k o y a
+    → HeavyBy k o v a → ⊥
 little_by k None v a y more low little heavy =
     let less : v - a ≤ y = omega (arith, low) in
     let square : (v - a) * (v - a) ≤ y * y = mul-le (v - a) (v - a) y y less less in
@@ -158,7 +159,8 @@ module _ (processors : ℕ) (J : Instance) (valid : IsValid J) (some : 1 ≤ pro
     -- a job of the state is one of the instance
     listed : (p : Placed) → IsMember p s.jobs → IsMember p.task.job J.jobs
     listed p member = subst (IsMember p.task.job) keeps.jobs
-        (map_member (λ (t : Task). t.job) (tasks_of s.jobs) p.task (map_member (λ (u : Placed). u.task) s.jobs p member))
+        (map_member (λ (t : Task). t.job) (tasks_of s.jobs) p.task (map_member (λ
+        (u : Placed). u.task) s.jobs p member))
 
     -- ---- moves
 
@@ -167,7 +169,8 @@ module _ (processors : ℕ) (J : Instance) (valid : IsValid J) (some : 1 ≤ pro
     calm_unlost q e calm = on_map (placed_after q e) Unlost s.jobs (λ p member is.
         let it = event_task q e p in
         let before = unlost p member (sym (ap (λ (t : Task). t.number) it.1) ∙ is) in (
-          λ gone. before.0 (role_stays e p.task (placed_after q e p).task Gone it (gives_gone e p.task (no_abandon e calm))
+          λ gone. before.0 (role_stays e p.task (placed_after q e p).task Gone it (gives_gone e p.task
+              (no_abandon e calm))
               gone),
           λ waits. ap (λ (t : Task). t.had) it.1
               ∙ before.1 (role_stays e p.task (placed_after q e p).task Waiting it (gives_waiting e p.task calm) waits),
@@ -187,7 +190,8 @@ module _ (processors : ℕ) (J : Instance) (valid : IsValid J) (some : 1 ≤ pro
           by_test p member false false own is = unlost p member is
 
     wait_unlost : (f : Placed) → IsMember f s.jobs → f.task.role ≡ Fresh → AllUnlost (after s (Waits f.task.number))
-    wait_unlost f f_member fresh = on_map (λ p. cond (eqb p.task.number f.task.number) (in_role p Waiting) p) Unlost s.jobs
+    wait_unlost f f_member fresh = on_map (λ p. cond (eqb p.task.number f.task.number)
+        (in_role p Waiting) p) Unlost s.jobs
         (λ p member. by_test p member (eqb p.task.number f.task.number) refl) where
           by_test : (p : Placed) → IsMember p s.jobs → (b : Bool) → eqb p.task.number f.task.number ≡ b
               → Unlost (cond b (in_role p Waiting) p)
@@ -215,7 +219,8 @@ module _ (processors : ℕ) (J : Instance) (valid : IsValid J) (some : 1 ≤ pro
           )
 
     -- no job takes the processor of this one
-    not_taken : (i : ℕ) (x : Placed) → IsMember x s.jobs → IsHeavy J.rules.ratio x.task.job.value (own_sum i value_of s.jobs)
+    not_taken : (i : ℕ) (x : Placed) → IsMember x s.jobs → IsHeavy J.rules.ratio x.task.job.value
+        (own_sum i value_of s.jobs)
         → Each (λ p. is_own_of i p ≡ true → p.task.number ≡ n → ⊥) s.jobs
     not_taken i x x_member takes p member own is = light x.task.job (listed x x_member)
         (heavy_mono J.rules.ratio x.task.job.value j.value (own_sum i value_of s.jobs) (omega (
@@ -237,7 +242,8 @@ module _ (processors : ℕ) (J : Instance) (valid : IsValid J) (some : 1 ≤ pro
         let x = seen_member i s.jobs f Fresh (λ e. cc) fresh f_member in
         subst (λ (u : Task). AllUnlost (after s (Waits u.number))) x.2
         (wait_unlost x.0 x.1 (ap (λ (u : Task). u.role) x.2 ∙ fresh))
-    deed_unlost i m (Arrived c member comes now first stale busy free) kind = calm_unlost i (Release c.number c.job) refl
+    deed_unlost i m (Arrived c member comes now first stale busy free) kind = calm_unlost i
+        (Release c.number c.job) refl
     deed_unlost i m (Taken r x member runs more x_member waits now stale takes) kind =
         let z = seen_member i s.jobs x Waiting (λ e. cc) waits x_member in
         take_unlost i s.clock r.number x.number (not_taken i z.0 z.1
@@ -291,7 +297,8 @@ module _ (processors : ℕ) (J : Instance) (valid : IsValid J) (some : 1 ≤ pro
               arith,
               cond_times (value_of p) (λ q. eqb p.owner q) (numbers_from 0 processors),
               most,
-              counts (eqb p.task.number n) (crosses s.clock p.task.job) (other e (eqb p.task.number n) refl) (crossing e),
+              counts (eqb p.task.number n) (crosses s.clock p.task.job) (other e (eqb p.task.number n) refl)
+                  (crossing e),
             )
 
       -- all of it together
@@ -315,7 +322,8 @@ module _ (processors : ℕ) (J : Instance) (valid : IsValid J) (some : 1 ≤ pro
           (λ q m. not_heavy J.rules.ratio j.value (own_sum q value_of s.jobs)
           (subst (λ (i : JobFacts). IsHeavy J.rules.ratio i.value (own_sum q value_of s.jobs) → ⊥) is_j
           (weak q (numbers_low q m)))) in
-          not_over J.rules.ratio (processors * j.value) (sum_by (λ q. own_sum q value_of s.jobs) (numbers_from 0 processors))
+          not_over J.rules.ratio (processors * j.value) (sum_by (λ q. own_sum q value_of s.jobs)
+          (numbers_from 0 processors))
           (sum_by (λ q. j.value - own_sum q value_of s.jobs) (numbers_from 0 processors)) enough_low little
           (heavy_mono J.rules.ratio (processors * j.value)
           (sum_by (λ q. own_sum q value_of s.jobs) (numbers_from 0 processors)) (worth_beside J n s.clock) on_worth
@@ -323,7 +331,8 @@ module _ (processors : ℕ) (J : Instance) (valid : IsValid J) (some : 1 ≤ pro
             numbers_low : (q : ℕ) → IsMember q (numbers_from 0 processors) → q < processors
             numbers_low q m = omega (arith, (numbers_below q 0 processors m).1)
 
-            enough_low : processors * j.value ≤ sum_by (λ q. j.value - own_sum q value_of s.jobs) (numbers_from 0 processors)
+            enough_low : processors * j.value ≤ sum_by (λ q. j.value - own_sum q value_of s.jobs)
+                (numbers_from 0 processors)
                 + sum_by (λ q. own_sum q value_of s.jobs) (numbers_from 0 processors)
             enough_low = omega (
               arith,
@@ -395,7 +404,8 @@ module _ (processors : ℕ) (J : Instance) (valid : IsValid J) (some : 1 ≤ pro
         let own = subst (λ r. cases.Acts J.rules.ratio r false m) i.0 acts in
         subst (λ (x : Move). AllUnlost (after s x)) (sym own.is)
         (deed_unlost q.processor own.move (deed_of J.rules.ratio J.rules.version (seen_from q.processor s)
-        (single.Prints (End 0)) (keeps.sound q.processor) (real processors J valid s keeps q.processor) own.move own.case)
+        (single.Prints (End 0)) (keeps.sound q.processor) (real processors J valid s keeps q.processor) own.move
+        own.case)
         own.kind)
     by_case m (cases.Abandoned q member _ acts it going weak) = gone_unlost q member m it going weak
     by_case m (cases.Ended may over) = calm_unlost 0 (End (value_sum (filter is_done (tasks_of s.jobs)))) refl
@@ -419,7 +429,8 @@ module _ (processors : ℕ) (J : Instance) (valid : IsValid J) (some : 1 ≤ pro
   pub heavy_completed : IsCompleted processors J n
   heavy_completed = subst (λ (s : State). Each (λ p. p.task.number ≡ n → p.task.role ≡ Done) s.jobs)
       (sym (at_end.is_last (opening J.jobs)))
-      (λ p member is. by_role p member is (is_over_role p.task (all_each is_over (tasks_of at_end.last.jobs) at_end.over p.task
+      (λ p member is. by_role p member is (is_over_role p.task (all_each is_over
+      (tasks_of at_end.last.jobs) at_end.over p.task
       (map_member (λ (u : Placed). u.task) at_end.last.jobs p member)))) where
         by_role : (p : Placed) → IsMember p at_end.last.jobs → p.task.number ≡ n
             → (p.task.role ≡ Done) ⊎ (p.task.role ≡ Gone) → p.task.role ≡ Done
