@@ -16,31 +16,23 @@ ghost use Rattle.many_processors.specs.Finishes.{IsDueAlike, AreDueAlike, NoneIs
 ghost use Rattle.many_processors.specs.Finishes.{RunsAtMark};
 ghost use Rattle.many_processors.specs.Online.{printed_up_to};
 
-/// - `same_step`: a settled step is the same, whatever comes at the mark or later.
-/// - `sound`: an open step keeps a state sound, as each processor sees it.
-/// - `reach`: the settled steps are all that come before the barrier of the mark.
-/// - `sound_at_mark`, `clock_at_mark`, `barrier_at_mark`, `none_fresh_at_mark`: there the state is a sound one of the
-///   instance's jobs, the clock is the mark, the step is a late one, and no job is fresh.
-/// - `while_open`, `at_the_end`: jobs that are released at the mark or later change nothing of what is settled: it
-///   begins what is settled at a later mark, and what the run prints.
-/// - `on_line`: what is printed up to a tick depends on the jobs that are released by then alone.
-/// - `further_while_open`, `further_at_the_end`: where no running job has come to one of some further finishes by what
-///   is settled, that begins what is settled at a later mark with them, and what the run prints with them.
-/// - `yet_to_come`, `yet_to_come_state`: where none has come to one at the mark either, the same is settled with them.
-/// - `due_alike`, `due_alike_state`: other finishes, or the same ones in another order, of which up to the mark the
-///   first that is due completes the same job at every step, settle the same.
-/// - `another_order`: in a state in which all finishes that are due complete the same job, their order is nothing, nor
-///   how often one stands.
-/// - `finish_at_mark_stays`, `finish_at_mark_next`: a job that runs at the mark, where all that is settled was taken
-///   before its tick, may finish there: what is settled stays, and its completion is next, on its processor.
+/// What holds of what is settled on several processors. Each clause is a law, whose remark stands above. It does nothing.
 pub fn laws_of_settled_steps()
+    // A settled step is the same, whatever comes at the mark or later.
     ensures same_step { (processors : ℕ) (rules : Rules) (s : State) (more : List Placed) (mark : ℕ)
         → AllComeFrom mark more → (waits_for_mark (open_step processors rules s) ≡ true → s.clock < mark)
         → open_step processors rules (with_later s more) ≡ open_step processors rules s }
+
+    // An open step keeps a state sound, as each processor sees it.
     ensures sound { (processors : ℕ) (J : Instance) (s : State) → 1 ≤ processors → IsValid J → Keeps processors J s
         → Keeps processors J (after s (open_step processors J.rules s)) }
+
+    // The settled steps are all that come before the barrier of the mark.
     ensures reach { (processors : ℕ) (J : Instance) (mark : ℕ) → 1 ≤ processors → IsValid J
         → IsSettledRun processors J.rules mark (opening J.jobs) (settled_steps processors J mark) }
+
+    // There the state is a sound one of the instance's jobs, the clock is the mark, the step is a late one, and no job
+    // is fresh.
     ensures sound_at_mark { (processors : ℕ) (J : Instance) (mark : ℕ) → 1 ≤ processors → IsValid J
         → Keeps processors J (settled_state processors J mark) }
     ensures clock_at_mark { (processors : ℕ) (J : Instance) (mark : ℕ) → 1 ≤ processors → IsValid J
@@ -49,15 +41,23 @@ pub fn laws_of_settled_steps()
         → IsBarrier processors J.rules mark (settled_state processors J mark) }
     ensures none_fresh_at_mark { (processors : ℕ) (J : Instance) (mark : ℕ) → 1 ≤ processors → IsValid J
         → Each (λ p. p.task.role ≡ Fresh → ⊥) (settled_state processors J mark).jobs }
+
+    // Jobs that are released at the mark or later change nothing of what is settled: it begins what is settled at a
+    // later mark, and what the run prints.
     ensures while_open { (processors : ℕ) (J : Instance) (more : List JobFacts) (mark mark2 : ℕ) → 1 ≤ processors
         → IsValid (with_jobs J more) → Each (λ j. mark ≤ j.release) more → mark ≤ mark2
         → Begins (settled processors J mark) (settled processors (with_jobs J more) mark2) }
     ensures at_the_end { (processors : ℕ) (J : Instance) (more : List JobFacts) (mark : ℕ) → 1 ≤ processors
         → IsValid (with_jobs J more) → Each (λ j. mark ≤ j.release) more
         → Begins (settled processors J mark) (printed_on processors (with_jobs J more)) }
+
+    // What is printed up to a tick depends on the jobs that are released by then alone.
     ensures on_line { (processors t : ℕ) (J K : Instance) → 1 ≤ processors → IsValid J → IsValid K
         → J.rules ≡ K.rules → known_at t J.jobs ≡ known_at t K.jobs
         → printed_up_to processors t J ≡ printed_up_to processors t K }
+
+    // Where no running job has come to one of some further finishes by what is settled, that begins what is settled at
+    // a later mark with them, and what the run prints with them.
     ensures further_while_open { (processors : ℕ) (J : Instance) (more : List Finish) (mark mark2 : ℕ) → 1 ≤ processors
         → IsValid J → mark ≤ mark2
         → Each (λ x. NoneIsDue processors J.rules.version more x.before) (settled_steps processors J mark)
@@ -65,21 +65,32 @@ pub fn laws_of_settled_steps()
     ensures further_at_the_end { (processors : ℕ) (J : Instance) (more : List Finish) (mark : ℕ) → 1 ≤ processors
         → IsValid J → Each (λ x. NoneIsDue processors J.rules.version more x.before) (settled_steps processors J mark)
         → Begins (settled processors J mark) (printed_on processors (with_finishes J more)) }
+
+    // Where none has come to one at the mark either, the same is settled with them.
     ensures yet_to_come { (processors : ℕ) (J : Instance) (more : List Finish) (mark : ℕ) → 1 ≤ processors → IsValid J
         → AreYetToCome processors J mark more
         → settled_steps processors (with_finishes J more) mark ≡ settled_steps processors J mark }
     ensures yet_to_come_state { (processors : ℕ) (J : Instance) (more : List Finish) (mark : ℕ) → 1 ≤ processors
         → IsValid J → AreYetToCome processors J mark more
         → settled_state processors (with_finishes J more) mark ≡ settled_state processors J mark }
+
+    // Other finishes, or the same ones in another order, of which up to the mark the first that is due completes the
+    // same job at every step, settle the same.
     ensures due_alike { (processors : ℕ) (J : Instance) (finishes : List Finish) (mark : ℕ) → 1 ≤ processors → IsValid J
         → AreDueAlike processors J mark finishes
         → settled_steps processors (instances.finishing J finishes) mark ≡ settled_steps processors J mark }
     ensures due_alike_state { (processors : ℕ) (J : Instance) (finishes : List Finish) (mark : ℕ) → 1 ≤ processors
         → IsValid J → AreDueAlike processors J mark finishes
         → settled_state processors (instances.finishing J finishes) mark ≡ settled_state processors J mark }
+
+    // In a state in which all finishes that are due complete the same job, their order is nothing, nor how often one
+    // stands.
     ensures another_order { (processors : ℕ) (J : Instance) (finishes : List Finish) (s : State)
         → HaveTheSame J.rules.finishes finishes → CompleteOne processors J.rules.version J.rules.finishes s
         → IsDueAlike processors J finishes s }
+
+    // A job that runs at the mark, where all that is settled was taken before its tick, may finish there: what is
+    // settled stays, and its completion is next, on its processor.
     ensures finish_at_mark_stays { (processors : ℕ) (J : Instance) (mark : ℕ) (p : Placed) → 1 ≤ processors → IsValid J
         → RunsAtMark processors J mark p → Begins (settled_steps processors J mark)
         (settled_steps processors (with_finishes J (finish_now p.task ∷ [])) mark) }
