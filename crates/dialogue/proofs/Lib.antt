@@ -5,3 +5,6 @@ pub mod Hearing
 pub mod Allowed
 pub mod Records
 pub mod Putting
+pub mod Reading
+pub mod Refusing
+pub mod Cutting

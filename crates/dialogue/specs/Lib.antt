@@ -1,3 +1,5 @@
 pub mod Talk
 pub mod Turns
 pub mod Sizes
+pub mod Reading
+pub mod Taking

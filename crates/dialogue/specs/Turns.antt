@@ -49,14 +49,21 @@ abbrev pub GivesBy : Standing → Ready → List ℕ → List (List ℕ) → (pa
 GivesBy stands ready x rest part true = (more : List (List ℕ)) × (rest ≡ part ∷ more) × stands x more
 GivesBy stands ready x rest part false = (rest ≡ []) × ready x
 
--- what is put of the answer, behind what is due, but for what is kept back after
+-- what is put of an answer, but for what is kept back after: a text that may be said, or a front of it; or there was no
+-- memory, where it may be lacking
+abbrev pub Answers : (says : Status → List ℕ → Type 0) → (lacks : Type 0) → (old new : Option (List Move))
+    → (after : List ℕ) → Result Status Stop → Type 0
+Answers says lacks old new after (Ok status) =
+    IsFinal status × ((text : List ℕ) × says status text × Passes old new [] after text)
+Answers says lacks old new after (Err NoMemory) = lacks × Passes old new [] after []
+Answers says lacks old new after (Err Unwritten) =
+    (status : Status) × (text : List ℕ) × says status text × CutsShort old new [] text
+
+-- the same of what answers these bytes, behind what is due for them
 abbrev pub AnswersBy : Talk → List ℕ → Bool → (old new : Option (List Move)) → (after : List ℕ)
     → Result Status Stop → Type 0
-AnswersBy t x ended old new after (Ok status) =
-    IsFinal status × ((text : List ℕ) × t.answer x ended status (t.due x ++ text) × Passes old new [] after text)
-AnswersBy t x ended old new after (Err NoMemory) = t.lacks x ended × Passes old new [] after []
-AnswersBy t x ended old new after (Err Unwritten) =
-    (status : Status) × (text : List ℕ) × t.answer x ended status (t.due x ++ text) × CutsShort old new [] text
+AnswersBy t x ended old new after result =
+    Answers (λ status text. t.answer x ended status (t.due x ++ text)) (t.lacks x ended) old new after result
 
 -- a count of faults rises where a write failed, and nowhere else
 abbrev pub StopCause : {T : Type 0} → Result T Stop → (writes writes' reads reads' : ℕ) → Type 0

@@ -6,6 +6,6 @@ mod feed_lines;
 mod numbers;
 
 pub use due_lines::{write_next, write_out};
-pub use faults::{fault_line, put_fault, put_refused, write_refused};
+pub use faults::{fault_line, put_fault, put_refused, refuse, write_refused};
 pub use feed_lines::{put_feed_line, put_job, put_rules};
 pub use numbers::put_numbers;

@@ -165,34 +165,39 @@ module _ (F G : List ℕ) where
       → (S : Session) × ((account (F ++ G)).session ≡ Some S)
   declared_front it = let kept = items_front it.0 it.1 in (kept.0, kept.1)
 
-  -- what is counted of its items stays counted
-  module _ (count : List Item → ℕ) (up : (items more : List Item) → count items ≤ count (items ++ more)) where
-    -- in an account
-    abbrev counts : Option Session → ℕ
-    counts o = elim o [ None ↦ 0 | Some S ↦ count S.items ]
+-- what is counted of its items stays counted
+module _ (count : List Item → ℕ) (up : (items more : List Item) → count items ≤ count (items ++ more)) where
+  -- in an account
+  abbrev counts : Option Session → ℕ
+  counts o = elim o [ None ↦ 0 | Some S ↦ count S.items ]
 
-    count_front : counts (account F).session ≤ counts (account (F ++ G)).session
-    count_front = by (account F).session refl where
-      by : (o : Option Session) → (account F).session ≡ o → counts o ≤ counts (account (F ++ G)).session
-      by None there = omega arith
-      by (Some S) there = let kept = items_front S there in
-          omega (arith, up S.items kept.2.0, ap count kept.2.1, ap counts kept.1)
+  count_behind : (ls : List (List ℕ)) (a : Account) → counts a.session ≤ counts (fold next_line a ls).session
+  count_behind ls a = by a.session refl where
+    by : (o : Option Session) → a.session ≡ o → counts o ≤ counts (fold next_line a ls).session
+    by None there = omega arith
+    by (Some S) there = let kept = keeps_lines S.items ls a (S, there, ([], sym (append-nil S.items))) in
+        omega (arith, up S.items kept.2.0, ap count kept.2.1, ap counts kept.1)
 
-  -- so its jobs stay admitted
-  pub admitted_front : admitted_in (account F) ≤ admitted_in (account (F ++ G))
-  admitted_front = count_front (λ items. length (admitted_jobs items)) (λ items more. omega (
-    arith,
-    ap length (filter_map-append job_of_item items more),
-    length-append (admitted_jobs items) (admitted_jobs more),
-  ))
+-- so its jobs stay admitted
+pub admitted_behind : (ls : List (List ℕ)) (a : Account) → admitted_in a ≤ admitted_in (fold next_line a ls)
+admitted_behind = count_behind (λ items. length (admitted_jobs items)) (λ items more. omega (
+  arith,
+  ap length (filter_map-append job_of_item items more),
+  length-append (admitted_jobs items) (admitted_jobs more),
+))
 
-  -- and those that were offered stay so
-  pub offered_front : offered_in (account F) ≤ offered_in (account (F ++ G))
-  offered_front = count_front (λ items. count_by is_offered items) (λ items more. omega (
-    arith,
-    sum_by-append (λ (item : Item). cond {A = ℕ} (is_offered item) 1 0) items more,
-  ))
+pub admitted_front : (F G : List ℕ) → admitted_in (account F) ≤ admitted_in (account (F ++ G))
+admitted_front F G = let more = account_append F G in
+    subst (λ (b : Account). admitted_in (account F) ≤ admitted_in b) (sym more.1) (admitted_behind more.0 (account F))
 
-  -- too many stay too many
-  pub too_many_front : has_too_many (account F) ≡ true → has_too_many (account (F ++ G)) ≡ true
-  too_many_front many = lt-ltb _ _ (omega (arith, offered_front, ltb-true _ _ many))
+-- and those that were offered stay so
+offered_behind : (ls : List (List ℕ)) (a : Account) → offered_in a ≤ offered_in (fold next_line a ls)
+offered_behind = count_behind (λ items. count_by is_offered items) (λ items more. omega (
+  arith,
+  sum_by-append (λ (item : Item). cond {A = ℕ} (is_offered item) 1 0) items more,
+))
+
+-- too many stay too many
+pub too_many_behind : (ls : List (List ℕ)) (a : Account) → has_too_many a ≡ true
+    → has_too_many (fold next_line a ls) ≡ true
+too_many_behind ls a many = lt-ltb _ _ (omega (arith, offered_behind ls a, ltb-true _ _ many))

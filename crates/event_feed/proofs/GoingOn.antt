@@ -70,6 +70,13 @@ next_good lines session mark Open l opened =
 next_good lines session mark Ended l opened = absurd (let e : Ended ≡ Open = opened in cc)
 next_good lines session mark (Faulty line cause) l opened = absurd (let e : Faulty line cause ≡ Open = opened in cc)
 
+-- and is one more
+pub good_line : (a : Account) (l : List ℕ) → (next_line a l).standing ≡ Open
+    → (suc a.lines ≤ most_lines Three) × (length l ≤ 128) × ((next_line a l).lines ≡ suc a.lines)
+good_line a l on =
+    let good = next_good a.lines a.session a.mark a.standing l on in
+    (good.0, good.1, (next_counted a.lines a.session a.mark a.standing l on).1)
+
 -- the lines of an account that goes on are few and short
 lines_good : (ls : List (List ℕ)) (a : Account) → (fold next_line a ls).standing ≡ Open
     → AreNotTooLong ls × (a.lines ≤ most_lines Three → a.lines + length ls ≤ most_lines Three)

@@ -7,7 +7,7 @@ use Rattle.std.proofs.lemmas.Bool.{and_parts}
 use Rattle.std.proofs.lemmas.List.Sums.{sum_by-append}
 use Rattle.dover_model.specs.Common.{most_jobs, JobFacts, Session, Item, JobItem, FinishItem, EarlyFinish, refused_at}
 use Rattle.dover_model.specs.Common.{refused_done_at, with_item, with_named, early_at, is_right, is_full, instance_of}
-use Rattle.dover_model.specs.Common.{is_same_refusal, Account, account, account_of_lines, is_open, rest_of, is_too_long}
+use Rattle.dover_model.specs.Common.{is_same_refusal, Account, account_of_lines, is_open, next_line}
 use Rattle.dover_model.specs.declared.events.Refusal.{Refusal}
 use Rattle.dover_model.specs.declared.events.Refusal.TheVariants.{Full}
 use Rattle.dover_model.specs.declared.events.Version.TheVariants.{Two}
@@ -18,9 +18,8 @@ use Rattle.event_feed.specs.Keeping.{Keeps, KeepsAll}
 use Rattle.event_feed.specs.Listing.{is_offered, offered_in, has_too_many, wants_more}
 use Rattle.event_feed.specs.declared.gathering.Gathering.{Gathering}
 use Rattle.event_feed.proofs.DoneLines.{done_session}
-use Rattle.event_feed.proofs.Admitting.{too_many_front}
-use Rattle.event_feed.proofs.GoingOn.{closed_account, open_short}
-use Rattle.event_feed.proofs.Listing.{open_by_test}
+use Rattle.event_feed.proofs.Admitting.{too_many_behind}
+use Rattle.event_feed.proofs.GoingOn.{closed_stays}
 
 -- ---- too many jobs
 
@@ -37,15 +36,11 @@ pub wanted_few : (a : Account) → wants_more a ≡ true → (is_open a ≡ true
 wanted_few a wants = let both = and_parts (is_open a) (not (has_too_many a)) wants in
     (both.0, not_true (has_too_many a) both.1)
 
--- then no line that has begun is too long
-pub wanted_short : (x : List ℕ) → wants_more (account x) ≡ true → is_too_long (rest_of x) ≡ false
-wanted_short x wants = open_short x (open_by_test (account x) (wanted_few (account x) wants).0)
-
--- and where no more is wanted, none is behind further bytes
-pub none_more : (x y : List ℕ) → wants_more (account x) ≡ false → wants_more (account (x ++ y)) ≡ false
-none_more x y over = by_bool _ (has_too_many (account x))
-    (λ many. none_wanted (account (x ++ y)) (too_many_front x y many))
-    (λ few. ap wants_more (closed_account x y (sym (few_wanted (account x) few) ∙ over)) ∙ over)
+-- and where no more is wanted, none is behind a further line
+pub none_more : (a : Account) (l : List ℕ) → wants_more a ≡ false → wants_more (next_line a l) ≡ false
+none_more a l over = by_bool _ (has_too_many a)
+    (λ many. none_wanted (next_line a l) (too_many_behind (l ∷ []) a many))
+    (λ few. ap wants_more (closed_stays (l ∷ []) a (sym (few_wanted a few) ∙ over)) ∙ over)
 
 -- ---- how many are offered
 

@@ -1,6 +1,6 @@
 -- Which line of a feed is at fault, and with which job its ratio is broken.
 use Rattle.std.specs.Prelude.{◌≡◌, ℕ, List, [], ◌∷◌, ◌++◌}
-use Rattle.dover_model.specs.Common.{lines_of, account_of_lines}
+use Rattle.dover_model.specs.Common.{account_of_lines}
 use Rattle.event_feed.specs.Answers.{NewFault}
 use Rattle.event_feed.specs.declared.faults.FeedFault.{FeedFault}
 
@@ -11,10 +11,3 @@ pub record IsFirstFault (fault : FeedFault) (ls : List (List ℕ)) : Type 0 wher
   pub more : List (List ℕ)
   pub lines : ls ≡ before ++ line ∷ more
   pub new : NewFault line fault (account_of_lines before) (account_of_lines (before ++ line ∷ []))
-
--- among the lines of these bytes, or of a front of them whose last line is too long, this is the first fault
-pub record IsFaultIn (fault : FeedFault) (bytes : List ℕ) : Type 0 where
-  pub read : List ℕ
-  pub rest : List ℕ
-  pub front : bytes ≡ read ++ rest
-  pub first : IsFirstFault fault (lines_of read)

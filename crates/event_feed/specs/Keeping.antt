@@ -1,14 +1,12 @@
 -- What is kept of a feed.
-use Rattle.std.specs.Prelude.{◌≡◌, ◌≢◌, ◌⊎◌, ℕ, ◌≤◌, List, [], ◌∷◌, ◌++◌, length, Some, true, false}
-use Rattle.dover_model.specs.Common.{account_of_lines, lines_of, rest_of, is_too_long}
-use Rattle.line_text.specs.Cutting as cutting
+use Rattle.std.specs.Prelude.{◌≡◌, ◌≢◌, ◌⊎◌, ℕ, ◌≤◌, List, [], ◌∷◌, ◌++◌, length, Some, false}
+use Rattle.dover_model.specs.Common.{account_of_lines}
 use Rattle.event_feed.specs.Faults.{IsFirstFault}
 use Rattle.event_feed.specs.Kept as feed
 use Rattle.event_feed.specs.declared.faults.FeedFault.{FeedFault}
 use Rattle.event_feed.specs.Listing.{ListsIn, offered_in, has_too_many, wants_more}
 use Rattle.event_feed.specs.declared.gathering.Gathering.{Gathering}
 use Rattle.event_feed.specs.declared.listed.DoneLine.{DoneLine}
-use Rattle.event_feed.specs.declared.reader.FeedReader.{FeedReader}
 
 -- the done lines behind one at this mark: without it, where it came below the mark or names no job, and else with it
 abbrev pub KeepsDone : Gathering → (mark at number : ℕ) → List DoneLine → Type 0
@@ -29,17 +27,3 @@ pub record Keeps (gathering : Gathering) (ls : List (List ℕ)) : Type 0 where
   pub goes_on : gathering.going ≡ wants_more (account_of_lines ls)
   pub too_many : gathering.too_many ≡ has_too_many (account_of_lines ls)
   pub all : gathering.too_many ≡ false → KeepsAll gathering ls
-
--- this is kept of these bytes, of which the last may have ended the feed, or have been that of a job too many
-pub record HasRead (reader : FeedReader) (bytes : List ℕ) : Type 0 where
-  pub cut : cutting.StandsFor reader.lines bytes
-  pub keeps : Keeps reader.gathering (lines_of bytes)
-  pub short : reader.gathering.going ≡ true → is_too_long (rest_of bytes) ≡ false
-
--- The reader stands for the bytes: it has read them, or a front of them behind which no more is wanted.
-pub record StandsFor (reader : FeedReader) (bytes : List ℕ) : Type 0 where
-  pub read : List ℕ
-  pub rest : List ℕ
-  pub front : bytes ≡ read ++ rest
-  pub reads : HasRead reader read
-  pub all : reader.gathering.going ≡ true → rest ≡ []

@@ -1,9 +1,9 @@
 -- What is known of a feed whose reading has ended.
 use Rattle.std.specs.Prelude.{◌≡◌, ◌⊎◌, ℕ, List, true, false, Some, length}
-use Rattle.dover_model.specs.Common.{Account, Ended, Faulty, is_open, account, whole_lines, Session, IsValidSession}
+use Rattle.dover_model.specs.Common.{Account, Ended, Faulty, is_open, account_of_lines, Session, IsValidSession}
 use Rattle.dover_model.specs.Common.{instance_of}
 use Rattle.event_feed.specs.Answers.{short_after}
-use Rattle.event_feed.specs.Faults.{IsFaultIn}
+use Rattle.event_feed.specs.Faults.{IsFirstFault}
 use Rattle.event_feed.specs.Kept.{cause_of_fault}
 use Rattle.event_feed.specs.declared.faults.FeedFault.{FeedFault}
 use Rattle.event_feed.specs.Listing.{listed_instance, StandAmong, has_too_many}
@@ -22,14 +22,14 @@ pub record IsEnded (listed : Listed) (a : Account) : Type 0 where
   pub run : listed_instance listed ≡ instance_of session
   pub among : StandAmong listed.jobs.items listed.done_lines.items
 
--- this is the fault of the feed, with the other job named where the ratio is broken, or the feed goes on and this says
--- that it is short
-abbrev pub IsRefusedBy : FeedFault → List ℕ → Type 0
-IsRefusedBy fault bytes =
-    (((account bytes).standing ≡ Faulty fault.line (cause_of_fault fault.cause)) × IsFaultIn fault bytes)
-    ⊎ ((is_open (account bytes) ≡ true) × (fault ≡ short_after (length (whole_lines bytes))))
+-- this is the fault of the feed of these lines, with the other job named where the ratio is broken, or the feed goes on
+-- and this says that it is short
+abbrev pub IsRefusedBy : FeedFault → List (List ℕ) → Type 0
+IsRefusedBy fault ls =
+    (((account_of_lines ls).standing ≡ Faulty fault.line (cause_of_fault fault.cause)) × IsFirstFault fault ls)
+    ⊎ ((is_open (account_of_lines ls) ≡ true) × (fault ≡ short_after (length ls)))
 
 -- why the jobs of the feed aren't listed: it is refused, or they are too many
-abbrev pub IsNotListed : NotListed → List ℕ → Type 0
-IsNotListed (Fault fault) bytes = (has_too_many (account bytes) ≡ false) × IsRefusedBy fault bytes
-IsNotListed TooMany bytes = has_too_many (account bytes) ≡ true
+abbrev pub IsNotListed : NotListed → List (List ℕ) → Type 0
+IsNotListed (Fault fault) ls = (has_too_many (account_of_lines ls) ≡ false) × IsRefusedBy fault ls
+IsNotListed TooMany ls = has_too_many (account_of_lines ls) ≡ true

@@ -1,7 +1,7 @@
 -- Comparisons that are few.
-use Rattle.std.proofs.Common.{◌≡◌, ◌≤◌, ◌<◌, ◌+◌, ◌*◌, ◌^◌, ℕ, List, length, sym, ap, ◌∙◌, arith}
+use Rattle.std.proofs.Common.{◌≡◌, ◌≤◌, ◌<◌, ◌+◌, ◌*◌, ◌^◌, ℕ, length, sym, ap, ◌∙◌, arith}
 use Rattle.std.proofs.Math.Nat.{mul-le-mul_left, mul-le-mul_right}
-use Rattle.dover_model.specs.Common.{account, CostsAtMost, Instance}
+use Rattle.dover_model.specs.Common.{Account, CostsAtMost, Instance}
 use Rattle.event_feed.specs.Answers.{admitted_in}
 use Rattle.event_feed.proofs.Admitting.{admitted_by}
 use Rattle.event_feed.specs.Record.{IsEnded}
@@ -9,9 +9,8 @@ use Rattle.event_feed.specs.declared.listed.Listed.{Listed}
 use Rattle.question_words.specs.Spending.{CostsRuns}
 
 -- as many jobs are admitted as are listed
-pub listed_count : (x : List ℕ) (listed : Listed) → IsEnded listed (account x)
-    → length listed.jobs.items ≡ admitted_in (account x)
-listed_count x listed it = ap (λ (J : Instance). length J.jobs) it.run ∙ sym (ap admitted_by it.session_is)
+pub listed_count : (a : Account) (listed : Listed) → IsEnded listed a → length listed.jobs.items ≡ admitted_in a
+listed_count a listed it = ap (λ (J : Instance). length J.jobs) it.run ∙ sym (ap admitted_by it.session_is)
 
 -- none are few
 pub no_cost : (runs n count : ℕ) → CostsRuns runs n count count

@@ -1,59 +1,43 @@
 -- What a word says that answers on the jobs of a feed: its laws.
-use Rattle.std.proofs.Common.{◌≡◌, ◌<◌, ◌^◌, ◌-◌, ℕ, List, ◌++◌, [], length, refl, sym, ap, ◌∙◌, arith}
-use Rattle.std.proofs.Common.{true, false, inl, inr}
-use Rattle.dover_model.specs.Feed.{Account, account, is_ended}
+use Rattle.std.proofs.Common.{◌≡◌, ◌∙◌, ℕ, List, ◌∷◌, [], refl, sym, subst, true, false, inl, inr, arith, le-ltb}
+use Rattle.dover_model.specs.Common.{Account, is_too_long, next_line}
 use Rattle.dover_port.specs.declared.status.Status.{Status}
-use Rattle.dialogue.specs.Talk.{IsSteady}
-use Rattle.event_feed.proofs.GoingOn.{closed_account, open_bytes}
-use Rattle.event_feed.proofs.Admitting.{too_many_front}
-use Rattle.event_feed.proofs.Offering.{few_wanted, wanted_few, wanted_short, none_more}
-use Rattle.event_feed.specs.Listing.{has_too_many, wants_more}
+use Rattle.dialogue.specs.Taking.{IsGood, IsOrderly}
+use Rattle.event_feed.specs.Listing.{wants_more}
+use Rattle.event_feed.proofs.Admitting.{too_many_behind}
+use Rattle.event_feed.proofs.GoingOn.{closed_stays, good_line}
 use Rattle.event_feed.proofs.Listing.{open_by_test}
-use Rattle.question_words.specs.Talk.{Says, IsRefusal, IsSaid, ask_talk}
+use Rattle.event_feed.proofs.Offering.{few_wanted, none_more, wanted_few}
+use Rattle.question_words.specs.Talk.{Answers, Says, ask_reading}
 
-module _ (says : Says) (x y : List ℕ) (over : wants_more (account x) ≡ false) where
-  -- where the jobs aren't too many, the account is the same
-  same : has_too_many (account x) ≡ false → account (x ++ y) ≡ account x
-  same few = closed_account x y (sym (few_wanted (account x) few) ∙ over)
+-- lines that are too long count as one and the same
+pub too_long_same : (a : Account) (l m : List ℕ) → is_too_long l ≡ true → is_too_long m ≡ true
+    → next_line a l ≡ next_line a m
+too_long_same a l m long_l long_m = rw (long_l, long_m) refl
 
-  refusal_stays : (text : List ℕ) → IsRefusal x false text → IsRefusal (x ++ y) false text
-  refusal_stays text (inl many) = inl (too_many_front x y many.0, many.1)
-  refusal_stays text (inr (few, inl fault)) = inr (
-    ap has_too_many (same few) ∙ few,
-    inl (fault.0, fault.1, ap (λ (a : Account). a.standing) (same few) ∙ fault.2, fault.3),
-  )
-  refusal_stays text (inr (few, inr short)) = absurd (let e : false ≡ true = short.0 in cc)
+-- a line behind those that end the feed changes no answer
+pub answer_stays : (says : Says) (a : Account) (l : List ℕ) (status : Status) (text : List ℕ) → wants_more a ≡ false
+    → Answers says a status text → Answers says (next_line a l) status text
+answer_stays says a l status text over (inl (many, refused, is)) = inl (too_many_behind (l ∷ []) a many, refused, is)
+answer_stays says a l status text over (inr (few, it)) = subst (λ b. Answers says b status text)
+    (sym (closed_stays (l ∷ []) a (sym (few_wanted a few) ∙ over))) (inr (few, it))
 
-  said_stays : (status : Status) (text : List ℕ) → IsSaid says status text x → IsSaid says status text (x ++ y)
-  said_stays status text it = record {
-    few = ap has_too_many (same it.few) ∙ it.few;
-    ended = ap is_ended (same it.few) ∙ it.ended;
-    session = it.session;
-    session_is = ap (λ (a : Account). a.session) (same it.few) ∙ it.session_is;
-    valid = it.valid;
-    said = it.said;
-  }
+-- where more is wanted behind a line, it is a good one
+pub good : (a : Account) (l : List ℕ) → wants_more (next_line a l) ≡ true
+    → IsGood (λ (b : Account). b.lines) a l (next_line a l)
+good a l wants =
+    let it = good_line a l (open_by_test (next_line a l) (wanted_few (next_line a l) wants).0) in
+    record { short = le-ltb _ _ it.1; few = omega (arith, it.0); counted = it.2 }
 
-  -- bytes behind those that end the feed change no answer
-  answer_stays : (status : Status) (text : List ℕ) → (ask_talk says).answer x false status text
-      → (ask_talk says).answer (x ++ y) false status text
-  answer_stays status text (inl refused) = inl (refused.0, refusal_stays text refused.1)
-  answer_stays status text (inr said) = inr (said_stays status text said)
-
--- the laws of the talk
-pub steady : (says : Says) → IsSteady (ask_talk says)
-steady says = record {
+-- the laws of the reading
+abbrev pub orderly : (says : Says) → IsOrderly (ask_reading says)
+orderly says = record {
   opens = refl;
-  nothing = refl;
-  grows = λ x y. ([], refl);
   stays = none_more;
-  answered = λ x y status text over it. answer_stays says x y over status text it;
-  lacking = λ x y it. it;
+  answered = answer_stays says;
+  lacking = λ a l it. it;
+  same = too_long_same;
+  lines = λ a. a.lines;
+  none = refl;
+  good = good;
 }
-
--- a feed of which more is wanted has few bytes
-pub few : (x : List ℕ) → wants_more (account x) ≡ true → length x < 2 ^ 64 - 1
-few x wants = omega (
-  arith,
-  open_bytes x (open_by_test (account x) (wanted_few (account x) wants).0) (wanted_short x wants),
-)

@@ -1,12 +1,12 @@
-//! What the reading loop calls: a reader of the feed, which is asked a question on its jobs at the end.
+//! What a question does with a line of the feed, and its answer.
 ghost use Rattle.std.specs.Prelude.{◌≡◌, ◌∷◌, [], IfOk, length};
 ghost use Rattle.dialogue.specs.Talk.{IsFinal};
-ghost use Rattle.dover_model.specs.Common.{IsValid, in_lines};
+ghost use Rattle.dover_model.specs.Common.{Account, IsValid, in_lines};
 ghost use Rattle.dover_port.specs.declared.status.Status.TheVariants.{Refused};
 ghost use Rattle.event_feed.specs.Listing.{listed_instance, StandAmong};
 ghost use Rattle.question_words.specs.Questions.{says};
-ghost use Rattle.question_words.specs.Talk.{ask_talk};
-ghost use Rattle.question_words.specs.Keeping.{Asked, Stands, IsAt, Costs};
+ghost use Rattle.question_words.specs.Talk.{ask_reading};
+ghost use Rattle.question_words.specs.Keeping.{Asked, Stands, Costs};
 ghost use Rattle.question_words.specs.Spending.{CostsRuns, runs_for};
 ghost use Rattle.question_words.specs.Texts.{text_of, refusal_line};
 
@@ -14,21 +14,20 @@ use crate::answer::Answer;
 use crate::{Question, best, compare, feasible, loss};
 use comparison_count::Comparisons;
 use dialogue::lines::fault_line;
-use dialogue::{Stop, Talker};
+use dialogue::{LineReader, Stop};
 use dover_model::Memory;
 use dover_port::{Output, Port, Status};
-use event_feed::{FeedReader, Listed, NotListed};
-use line_text::BackLine;
+use event_feed::{Gathering, Listed, NotListed};
 use std::alloc::Global;
 use std::marker::PhantomData;
 use std::sync::ledger::Ledger;
 
-/// A question on the jobs of the feed that is read. Nothing is due before the answer.
+/// A question on the jobs of the feed that is read.
 #[derive(Drop)]
 pub(crate) struct Asking<L: Ledger> {
     pub(crate) alloc: Global,
     pub(crate) question: Question,
-    pub(crate) reader: FeedReader,
+    pub(crate) feed: Gathering,
     pub(crate) counts: PhantomData<L>,
 }
 
@@ -65,34 +64,27 @@ fn refused(alloc: Global, why: NotListed) -> Answer
     }
 }
 
-impl<L: Ledger> Talker for Asking<L> {
+impl<L: Ledger> LineReader for Asking<L> {
     type Meter = Comparisons<L>;
 
     ghost about = { Asked };
 
-    ghost talk = { λ asked. ask_talk (says asked.question) };
+    ghost account = { Account };
 
-    ghost stands = { λ asked a steps. IsAt asked a.question a.reader steps };
+    ghost reading = { λ asked. ask_reading (says asked.question) };
 
-    ghost ready = { λ asked a steps. Stands asked a.question a.reader steps };
+    ghost stands = { λ asked a steps. Stands asked a.question a.feed steps };
 
     ghost costs = { λ asked steps. Costs asked steps };
 
     fn laws() {}
 
-    fn take(&mut self, _meter: &mut Comparisons<L>, piece: &[u8]) -> Result<usize, Memory> {
-        match self.reader.take(piece) {
-            Ok(()) => Ok(piece.len()),
-            Err(error) => Err(error),
-        }
+    fn take_line(&mut self, _meter: &mut Comparisons<L>, line: &[u8]) -> Result<(), Memory> {
+        self.feed.take_line(line)
     }
 
-    fn next_part(&mut self, _meter: &mut Comparisons<L>, _part: &mut BackLine) -> bool {
-        false
-    }
-
-    fn goes_on(&self, _meter: &Comparisons<L>) -> bool {
-        self.reader.goes_on()
+    fn goes_on(&self) -> bool {
+        self.feed.goes_on()
     }
 
     fn answer<P: Port>(
@@ -100,9 +92,8 @@ impl<L: Ledger> Talker for Asking<L> {
         meter: &mut Comparisons<L>,
         port: &mut P,
         out: &mut Output,
-        _ended: bool,
     ) -> Result<Status, Stop> {
-        match self.reader.close() {
+        match self.feed.close() {
             Ok(listed) => match answer(self.alloc, self.question, listed, meter) {
                 Ok(answer) => answer.put(port, out),
                 Err(Memory) => Err(Stop::NoMemory),

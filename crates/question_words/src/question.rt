@@ -8,9 +8,9 @@ ghost use Rattle.question_words.specs.Talk.{ask_talk};
 
 use crate::asking::Asking;
 use comparison_count::Comparisons;
-use dialogue::converse;
+use dialogue::converse_in_lines;
 use dover_port::{Port, Status};
-use event_feed::FeedReader;
+use event_feed::Gathering;
 use std::alloc::Global;
 use std::marker::PhantomData;
 use std::sync::ledger::Ledger;
@@ -53,8 +53,8 @@ pub fn question_word<P: Port, L: Ledger>(
     let asking = Asking {
         alloc,
         question,
-        reader: FeedReader::new(alloc),
+        feed: Gathering::new(alloc),
         counts: PhantomData,
     };
-    converse(port, asking, comparisons)
+    converse_in_lines(port, asking, comparisons)
 }

@@ -1,20 +1,20 @@
--- The account of a text that grows, and of one that goes on.
-use Rattle.std.proofs.Common.{◌≡◌, ◌≤◌, ◌<◌, ◌+◌, ℕ, suc, List, ◌∷◌, ◌++◌, [], length, refl, sym, ap, ◌∙◌, subst, Bool}
-use Rattle.std.proofs.Common.{true, false, cond, Option, Some, None, arith, nat_lt, fold, ltb-false, lt-ltb, le-ltb}
-use Rattle.std.proofs.Common.{append-nil, option_and_then}
+-- The account of a text with one line more, and the laws of the reading.
+use Rattle.std.proofs.Common.{◌≡◌, ◌≤◌, ◌<◌, ℕ, suc, List, ◌∷◌, ◌++◌, [], refl, sym, ap, ◌∙◌, Bool, true, false, cond}
+use Rattle.std.proofs.Common.{Option, Some, None, arith, nat_lt, ltb-false, lt-ltb, le-ltb, option_and_then}
 use Rattle.std.proofs.lemmas.List.Sums.{fold-append}
 use Rattle.dover_model.specs.declared.events.Version.TheVariants.{Three}
-use Rattle.dover_model.specs.Common.{most_lines, lines_of, whole_lines, rest_of, is_too_long, fields_of, Standing, Open}
-use Rattle.dover_model.specs.Common.{Ended, Faulty, Cause}
+use Rattle.dover_model.specs.Common.{most_lines, is_too_long, fields_of, Open, Cause}
 use Rattle.dover_model.specs.Feed as feed
-use Rattle.dover_model.proofs.texts.GrowingTexts.{read_append}
-use Rattle.line_text.proofs.Lengths.{AreNotTooLong, text_few}
 use Rattle.dover_model.specs.FeedLine as feeds
+use Rattle.dover_model.proofs.lists.Tests.{never}
+use Rattle.dialogue.specs.Taking.{IsGood, IsOrderly}
+use Rattle.dialogue.proofs.Reading.{closed_answered, closed_stays}
 use Rattle.task_words.specs.reading.Lines as tasks
 use Rattle.task_words.specs.declared.reading.lines.TaskLine.TheVariants.{Declared, Factored, Task, End}
 use Rattle.ratio_word.specs.Lines.{text_line, of_feed}
 use Rattle.ratio_word.specs.Account.{TextAccount, no_lines, cause_of, with_fault, with_line, read_line, is_open}
-use Rattle.ratio_word.specs.Account.{next_line, account_of_lines, account}
+use Rattle.ratio_word.specs.Account.{next_line, account_of_lines}
+use Rattle.ratio_word.specs.Talk.{ratio_reading}
 use Rattle.ratio_word.specs.declared.lines.TextLine.{TextLine}
 use Rattle.ratio_word.specs.declared.lines.TextLine.TheVariants.{Plain, Job, Mark}
 
@@ -23,18 +23,6 @@ use Rattle.ratio_word.specs.declared.lines.TextLine.TheVariants.{Plain, Job, Mar
 -- the account with its next line counted
 abbrev pub counted : TextAccount → TextAccount
 counted a = record a { lines = suc a.lines }
-
--- whether a text goes on, by its standing
-abbrev pub goes_on : Standing → Bool
-goes_on s = elim s [ Open ↦ true | Ended ↦ false | Faulty line cause ↦ false ]
-
--- an account whose test says so goes on
-pub open_by_test : (a : TextAccount) → is_open a ≡ true → a.standing ≡ Open
-open_by_test a on = by a.standing refl where
-  by : (s : Standing) → a.standing ≡ s → a.standing ≡ Open
-  by Open is = is
-  by Ended is = absurd (let e : is_open a ≡ false = ap goes_on is in cc)
-  by (Faulty line cause) is = absurd (let e : is_open a ≡ false = ap goes_on is in cc)
 
 -- the account after a line that is counted, where it has one of the forms or none
 abbrev pub after_form : TextAccount → Option TextLine → TextAccount
@@ -72,36 +60,24 @@ read_by long l = elim (cond long None (tasks.line_of_fields (fields_of l))) [
 unread : (l : List ℕ) → is_too_long l ≡ true → text_line l ≡ None
 unread l long = ap (λ b. read_by b l) long
 
-too_long_same : (a : TextAccount) (l m : List ℕ) → is_too_long l ≡ true → is_too_long m ≡ true
+pub too_long_same : (a : TextAccount) (l m : List ℕ) → is_too_long l ≡ true → is_too_long m ≡ true
     → next_line a l ≡ next_line a m
 too_long_same a l m long_l long_m =
     ap (λ o. cond (is_open a) (after_count (counted a) (nat_lt (most_lines Three) (suc a.lines)) o) a)
     (unread l long_l ∙ sym (unread m long_m))
 
-account_append : (F G : List ℕ) → (ls : List (List ℕ))
-    × (account (F ++ G) ≡ fold next_line (account F) ls)
-account_append F G = read_append next_line no_lines too_long_same F G
-
 -- an account that doesn't go on stays
-closed_stays : (ls : List (List ℕ)) (a : TextAccount) → is_open a ≡ false → fold next_line a ls ≡ a
-closed_stays [] a closed = refl
-closed_stays (l ∷ ls) a closed = cc (closed_stays ls a closed)
-
-pub closed_account : (F G : List ℕ) → is_open (account F) ≡ false → account (F ++ G) ≡ account F
-closed_account F G closed = let it = account_append F G in it.1 ∙ closed_stays it.0 (account F) closed
+pub closed : (a : TextAccount) (l : List ℕ) → is_open a ≡ false → next_line a l ≡ a
+closed a l over = ap (λ b. cond b (read_line (counted a) l) a) over
 
 -- ---- the lines of a text that goes on
 
 -- a line that can be read isn't too long
-read_few : (l : List ℕ) (line : TextLine) → text_line l ≡ Some line → length l ≤ 128
-read_few l line read = by_length (is_too_long l) refl read where
-  by_length : (b : Bool) → is_too_long l ≡ b → read_by b l ≡ Some line → length l ≤ 128
+read_short : (l : List ℕ) (line : TextLine) → text_line l ≡ Some line → is_too_long l ≡ false
+read_short l line read = by_length (is_too_long l) refl read where
+  by_length : (b : Bool) → is_too_long l ≡ b → read_by b l ≡ Some line → is_too_long l ≡ false
   by_length true long none = absurd (let e : None ≡ Some line = none in cc)
-  by_length false fits some = ltb-false _ _ fits
-
--- a line at fault doesn't go on
-never_open : (a : TextAccount) (cause : Cause) → (with_fault a cause).standing ≡ Open → ⊥
-never_open a cause opened = let e : Faulty a.lines cause ≡ Open = opened in cc
+  by_length false fits some = fits
 
 -- a line changes no count
 same_count : (a : TextAccount) (line : TextLine) (o : Option Cause) → (with_line a line o).lines ≡ a.lines
@@ -113,76 +89,35 @@ same_count a (Job release work deadline value) None = refl
 same_count a Mark None = refl
 same_count a line (Some cause) = refl
 
--- where an account goes on after a line, the line was counted, and was no longer than a line may be
-pub record IsGood (a : TextAccount) (l : List ℕ) (after : TextAccount) : Type 0 where
-  pub few : a.lines ≤ most_lines Three
-  pub short : length l ≤ 128
-  pub lines : after.lines ≡ a.lines
+-- where an account goes on behind a line, the line was counted, and was no longer than a line may be
+pub next_good : (a : TextAccount) (l : List ℕ) → is_open (next_line a l) ≡ true
+    → IsGood (λ (b : TextAccount). b.lines) a l (next_line a l)
+next_good a l on = by_open (is_open a) refl on where
+  by_count : (b : Bool) (o : Option TextLine) → nat_lt (most_lines Three) (suc a.lines) ≡ b → text_line l ≡ o
+      → is_open (after_count (counted a) b o) ≡ true
+      → IsGood (λ (b : TextAccount). b.lines) a l (after_count (counted a) b o)
+  by_count true o many read opened = never opened
+  by_count false None few read opened = never opened
+  by_count false (Some line) few read opened = record {
+    short = read_short l line read;
+    few = let most : suc a.lines ≤ most_lines Three = ltb-false _ _ few in omega (arith, most);
+    counted = same_count (counted a) line (cause_of (counted a) line);
+  }
 
-read_good : (a : TextAccount) (l : List ℕ) → (read_line a l).standing ≡ Open → IsGood a l (read_line a l)
-read_good a l opened = by_count (nat_lt (most_lines Three) a.lines) (text_line l) refl refl opened where
-  by_count : (b : Bool) (o : Option TextLine) → nat_lt (most_lines Three) a.lines ≡ b → text_line l ≡ o
-      → (after_count a b o).standing ≡ Open → IsGood a l (after_count a b o)
-  by_count true o many read on = absurd (never_open a _ on)
-  by_count false None few read on = absurd (never_open a _ on)
-  by_count false (Some line) few read on =
-      record {
-        few = ltb-false _ _ few;
-        short = read_few l line read;
-        lines =
-            same_count a line (cause_of a line);
-      }
+  by_open : (b : Bool) → is_open a ≡ b → is_open (cond b (read_line (counted a) l) a) ≡ true
+      → IsGood (λ (b : TextAccount). b.lines) a l (cond b (read_line (counted a) l) a)
+  by_open true is opened = by_count (nat_lt (most_lines Three) (suc a.lines)) (text_line l) refl refl opened
+  by_open false is opened = never (sym is ∙ opened)
 
-next_good : (a : TextAccount) (l : List ℕ) → (next_line a l).standing ≡ Open
-    → (a.standing ≡ Open) × IsGood (counted a) l (next_line a l)
-next_good a l opened = by (is_open a) refl opened where
-  by : (b : Bool) → is_open a ≡ b → (cond b (read_line (counted a) l) a).standing ≡ Open
-      → (a.standing ≡ Open) × IsGood (counted a) l (cond b (read_line (counted a) l) a)
-  by true on good = (open_by_test a on, read_good (counted a) l good)
-  by false off good = absurd (let e : is_open a ≡ true = ap goes_on good in cc)
-
--- the lines of an account that goes on are few and short, and each is counted
-pub record AreGood (ls : List (List ℕ)) (a : TextAccount) : Type 0 where
-  pub first : a.standing ≡ Open
-  pub short : AreNotTooLong ls
-  pub few : a.lines ≤ most_lines Three → a.lines + length ls ≤ most_lines Three
-  pub lines : (fold next_line a ls).lines ≡ a.lines + length ls
-
-pub lines_good : (ls : List (List ℕ)) (a : TextAccount) → (fold next_line a ls).standing ≡ Open → AreGood ls a
-lines_good [] a opened = record { first = opened; short = tt; few = λ few. omega arith; lines = omega arith }
-lines_good (l ∷ ls) a opened =
-    let rest : AreGood ls (next_line a l) = lines_good ls (next_line a l) opened in
-    let good = next_good a l rest.first in
-    let count : (next_line a l).lines ≡ suc a.lines = good.1.lines in
-    let low : suc a.lines ≤ most_lines Three = good.1.few in
-    let all : (next_line a l).lines + length ls ≤ most_lines Three = rest.few (omega (arith, low, count)) in
-    record {
-      first = good.0;
-      short = (good.1.short, rest.short);
-      few = λ few. omega (arith, all, count);
-      lines = omega (arith, rest.lines, count);
-    }
-
--- a text that goes on has at most so many bytes
-pub open_bytes : (x : List ℕ) → (account x).standing ≡ Open → is_too_long (rest_of x) ≡ false
-    → length x < 2_064_000_000_129
-open_bytes x opened short =
-    let whole : lines_of x ≡ whole_lines x = ap (λ b. whole_lines x ++ cond b (rest_of x ∷ []) []) short
-    ∙ append-nil (whole_lines x) in
-    let good = lines_good (lines_of x) no_lines opened in
-    let few : 0 + length (whole_lines x) ≤ most_lines Three =
-    subst (λ ls. 0 + length ls ≤ most_lines Three) whole (good.few (omega arith)) in
-    omega (
-      arith,
-      text_few x (most_lines Three) (subst AreNotTooLong whole good.short) (omega (arith, few))
-          (ltb-false _ _ short),
-    )
-
--- and counts its whole lines
-pub open_count : (x : List ℕ) → (account x).standing ≡ Open → is_too_long (rest_of x) ≡ false
-    → (account x).lines ≡ length (whole_lines x)
-open_count x opened short =
-    let whole : lines_of x ≡ whole_lines x = ap (λ b. whole_lines x ++ cond b (rest_of x ∷ []) []) short
-    ∙ append-nil (whole_lines x) in
-    let good = lines_good (lines_of x) no_lines opened in
-    omega (arith, good.lines, ap (λ (ls : List (List ℕ)). length ls) whole)
+-- the laws of the reading
+abbrev pub orderly : IsOrderly ratio_reading
+orderly = record {
+  opens = refl;
+  stays = closed_stays ratio_reading closed;
+  answered = closed_answered ratio_reading closed;
+  lacking = λ a l none. none;
+  same = too_long_same;
+  lines = λ a. a.lines;
+  none = refl;
+  good = next_good;
+}

@@ -7,5 +7,4 @@ pub mod Said
 pub mod Seeking
 pub mod Spread
 pub mod Taking
-pub mod Talking
 pub mod Widened

@@ -1,26 +1,21 @@
 -- What is kept of a text.
-use Rattle.std.specs.Prelude.{◌≡◌, ◌⊎◌, ◌≤◌, ℕ, List, [], ◌∷◌, ◌++◌, length, true, false, Option, Some}
+use Rattle.std.specs.Prelude.{◌≡◌, ◌≤◌, ℕ, List, [], ◌∷◌, ◌++◌, length, true, Option, Some}
 use Rattle.std.specs.Prelude.{None, is_some, Result, Ok, Err}
 use Rattle.dover_model.specs.declared.events.Version.TheVariants.{Three}
-use Rattle.dover_model.specs.Common.{most_jobs, most_lines, Declaration as Rules, JobFacts, lines_of, rest_of}
-use Rattle.dover_model.specs.Common.{is_too_long, rules_with, whole_lines}
+use Rattle.dover_model.specs.Common.{most_jobs, Declaration as Rules, JobFacts, rules_with}
 use Rattle.event_feed.specs.Kept.{cause_of_fault}
-use Rattle.event_feed.specs.Answers.{short_after}
 use Rattle.event_feed.specs.declared.faults.Cause.{Cause}
-use Rattle.event_feed.specs.declared.faults.FeedFault.{FeedFault}
-use Rattle.line_text.specs.Cutting as cutting
 use Rattle.dover_model.specs.Feed as feed
 use Rattle.task_words.specs.reading.Account.{rules_of_line}
 use Rattle.task_words.specs.declared.reading.lines.TaskLine.TheVariants.{Declared, Factored, Task, End}
 use Rattle.ratio_word.specs.Extremes.{HasExtremes}
-use Rattle.ratio_word.specs.Account.{TextAccount, account_of_lines, account, is_open, job_cause, with_fault, with_job}
+use Rattle.ratio_word.specs.Account.{TextAccount, account_of_lines, job_cause, with_fault, with_job}
 use Rattle.ratio_word.specs.declared.intake.Declaration.{Declaration}
 use Rattle.ratio_word.specs.declared.intake.Intake.{Intake}
 use Rattle.ratio_word.specs.declared.intake.Progress.{Progress}
 use Rattle.ratio_word.specs.declared.intake.Progress.TheVariants as progress
 use Rattle.ratio_word.specs.declared.lines.TextLine.{TextLine}
 use Rattle.ratio_word.specs.declared.lines.TextLine.TheVariants.{Plain, Job, Mark}
-use Rattle.ratio_word.specs.declared.text.Text.{Text}
 
 -- the rules that were declared, and of the jobs so far how many they are, the least dense and the densest
 pub record KeepsDeclared (d : Declaration) (rules : Rules) (jobs : List JobFacts) : Type 0 where
@@ -74,41 +69,11 @@ abbrev pub with_offer : TextAccount → JobFacts → Option feed.Cause → TextA
 with_offer a j None = with_job a j
 with_offer a j (Some why) = with_fault a why
 
--- what is kept of these lines, of which none ended the text or was faulty
-pub record Keeps (intake : Intake) (ls : List (List ℕ)) : Type 0 where
-  pub few : intake.lines ≤ most_lines Three
-  pub stands : (account_of_lines ls).standing ≡ feed.Open
-  pub keeps : KeepsAccount intake (account_of_lines ls)
+-- a text of this account ended without a fault, and this is kept of its jobs
+abbrev pub IsEnded : Declaration → TextAccount → Type 0
+IsEnded d a = (a.standing ≡ feed.Ended) × ((rules : Rules) × (a.rules ≡ Some rules) × KeepsDeclared d rules a.jobs)
 
--- what is kept of these bytes, of which no line ended the text or was faulty
-pub record TextStands (text : Text) (bytes : List ℕ) : Type 0 where
-  pub cut : cutting.StandsFor text.lines bytes
-  pub short : is_too_long (rest_of bytes) ≡ false
-  pub keeps : Keeps text.intake (lines_of bytes)
-
--- the text of these bytes goes on, or it has ended with what is kept, or this is its fault
-abbrev pub IsSo : Progress → Text → List ℕ → Type 0
-IsSo progress.Open text bytes = TextStands text bytes
-IsSo progress.Ended text bytes = StandsAt progress.Ended text.intake (account bytes)
-IsSo (progress.Refused cause) text bytes = StandsAt (progress.Refused cause) text.intake (account bytes)
-
--- the text of these bytes ended without a fault, and this is kept of its jobs
-pub record IsEnded (d : Declaration) (bytes : List ℕ) : Type 0 where
-  pub ended : (account bytes).standing ≡ feed.Ended
-  pub rules : Rules
-  pub rules_are : (account bytes).rules ≡ Some rules
-  pub keeps : KeepsDeclared d rules (account bytes).jobs
-
--- this is the fault of the text, or the text goes on and this says that it is short
-abbrev pub IsRefusedBy : FeedFault → List ℕ → Type 0
-IsRefusedBy fault bytes = ((account bytes).standing ≡ feed.Faulty fault.line (cause_of_fault fault.cause))
-    ⊎ ((is_open (account bytes) ≡ true) × (fault ≡ short_after (length (whole_lines bytes))))
-
--- the text of these bytes stands so, and no comparison was counted since
-pub record Stands (before : ℕ) (text : Text) (at : Progress) (count : ℕ) (bytes : List ℕ) : Type 0 where
-  pub reads : IsSo at text bytes
+-- the text of these lines stands so, and no comparison was counted since
+pub record Stands (before : ℕ) (intake : Intake) (at : Progress) (count : ℕ) (ls : List (List ℕ)) : Type 0 where
+  pub reads : StandsAt at intake (account_of_lines ls)
   pub counts : count ≡ before
-
--- and nothing is left to give
-abbrev pub IsAt : (before : ℕ) → Text → Progress → (count : ℕ) → List ℕ → List (List ℕ) → Type 0
-IsAt before text at count bytes rest = Stands before text at count bytes × (rest ≡ [])

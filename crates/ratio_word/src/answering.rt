@@ -1,7 +1,6 @@
 //! The answer on what was read.
-ghost use Rattle.std.specs.Prelude.{◌≡◌, ◌≤◌, ◌++◌, ◌∷◌, [], List, codes, length, Err};
-ghost use Rattle.dialogue.specs.Turns.{StopCause, StopsOn};
-ghost use Rattle.dialogue.specs.declared.talker.Stop.TheVariants as stop;
+ghost use Rattle.std.specs.Prelude.{◌≡◌, ◌≤◌, ◌++◌, ◌∷◌, [], List, codes, length};
+ghost use Rattle.dialogue.specs.Turns.{Answers, StopCause, StopsOn};
 ghost use Rattle.dover_model.specs.Common.{Declaration as Rules, JobFacts, in_lines, rules_with};
 ghost use Rattle.dover_port.specs.Causes.{HasCause, StopsAtFailure};
 ghost use Rattle.dover_port.specs.Moves.{PutsThrough};
@@ -9,7 +8,6 @@ ghost use Rattle.event_feed.specs.Feeds.{rules_text};
 ghost use Rattle.ratio_word.specs.Extremes.{numbered};
 ghost use Rattle.ratio_word.specs.Keeping.{KeepsDeclared};
 ghost use Rattle.ratio_word.specs.Says.{SaysRatio, bound_line, extreme_lines, job_line};
-ghost use Rattle.task_words.specs.asking.Putting.{SaysBy};
 
 use crate::extremes::{Extremes, Found};
 use crate::finding::find;
@@ -122,8 +120,7 @@ pub(crate) fn answer<P: Port>(
     requires empty { out.old ≡ [] }
     requires keeps { (rules : Rules) × (jobs : List JobFacts) × KeepsDeclared declared.now rules jobs }
     ensures says { (rules : Rules) (jobs : List JobFacts) → KeepsDeclared declared.now rules jobs →
-        SaysBy (SaysRatio rules jobs) (P.moves port.old) (P.moves port.new) out.new result }
-    ensures memory { result ≡ Err stop.NoMemory → ⊥ }
+        Answers (SaysRatio rules jobs) ⊥ (P.moves port.old) (P.moves port.new) out.new result }
     ensures cause { StopCause result
         (P.write_faults port.old) (P.write_faults port.new) (P.read_faults port.old) (P.read_faults port.new) }
     ensures stops { StopsOn result (P.calls port.old) (P.calls port.new) }

@@ -5,7 +5,7 @@ ghost use Rattle.dover_model.specs.Feed.{rules_with};
 ghost use Rattle.dover_model.specs.Feed as feed;
 ghost use Rattle.dover_model.specs.declared.events.Version.TheVariants.{Three};
 ghost use Rattle.ratio_word.specs.Account.{TextAccount, account_of_lines, cause_of, with_line};
-ghost use Rattle.ratio_word.specs.Keeping.{Declares, Keeps, KeepsAccount, KeepsDeclared, StandsAt, Takes, offer_cause};
+ghost use Rattle.ratio_word.specs.Keeping.{Declares, KeepsAccount, KeepsDeclared, StandsAt, Takes, offer_cause};
 ghost use Rattle.ratio_word.specs.Keeping.{with_offer};
 ghost use Rattle.ratio_word.specs.Lines.{IsShort};
 ghost use Rattle.ratio_word.specs.declared.lines.TextLine.{TextLine};
@@ -96,7 +96,7 @@ pub(crate) struct Intake {
 impl Intake {
     /// No line came yet.
     pub(crate) fn new() -> Intake
-        ensures { Keeps result [] }
+        ensures { StandsAt progress.Open result (account_of_lines []) }
     {
         Intake {
             lines: 0,
@@ -106,11 +106,10 @@ impl Intake {
 
     /// A line that declares these rules, or nothing, and is counted.
     fn declare(&mut self, rules: Option<(Ratio, Version)>) -> Progress
-        ensures stands { (read : TextLine) (a : TextAccount) →
+        ensures { (read : TextLine) (a : TextAccount) →
             Declares read (option_map (λ declared. rules_with declared.0 declared.1) rules) →
             a.standing ≡ feed.Open → KeepsAccount self.old a →
             StandsAt result self.new (with_line a read (cause_of a read)) }
-        ensures lines { self.new.lines ≡ self.old.lines }
     {
         if self.declared.is_some() {
             return Progress::Refused(Cause::Declared);
@@ -131,10 +130,9 @@ impl Intake {
 
     /// A line that offers the job of these numbers, and is counted.
     fn offer(&mut self, release: u64, work: u64, deadline: u64, value: u64) -> Progress
-        ensures stands { (a : TextAccount) → a.standing ≡ feed.Open → KeepsAccount self.old a →
+        ensures { (a : TextAccount) → a.standing ≡ feed.Open → KeepsAccount self.old a →
             StandsAt result self.new (with_offer a (job_of_numbers release work deadline value)
             (offer_cause a (job_of_numbers release work deadline value))) }
-        ensures lines { self.new.lines ≡ self.old.lines }
     {
         match &mut self.declared {
             None => Progress::Refused(Cause::Declared),
@@ -148,10 +146,9 @@ impl Intake {
     /// The line of a task, which is counted.
     fn task(&mut self, task: &PeriodicTask) -> Progress
         requires { IsShort (line.Plain (plain.Task task.now)) }
-        ensures stands { (a : TextAccount) → a.standing ≡ feed.Open → KeepsAccount self.old a →
+        ensures { (a : TextAccount) → a.standing ≡ feed.Open → KeepsAccount self.old a →
             StandsAt result self.new (with_line a (line.Plain (plain.Task task.now))
             (cause_of a (line.Plain (plain.Task task.now)))) }
-        ensures lines { self.new.lines ≡ self.old.lines }
     {
         if task.period == 0 {
             return self.pass(Progress::Refused(Cause::BadJob));
@@ -178,9 +175,8 @@ impl Intake {
     /// A line that a task text may have, which is counted.
     fn take_plain(&mut self, read: TaskLine) -> Progress
         requires { IsShort (line.Plain read) }
-        ensures stands { (a : TextAccount) → a.standing ≡ feed.Open → KeepsAccount self.old a →
+        ensures { (a : TextAccount) → a.standing ≡ feed.Open → KeepsAccount self.old a →
             StandsAt result self.new (with_line a (line.Plain read) (cause_of a (line.Plain read))) }
-        ensures lines { self.new.lines ≡ self.old.lines }
     {
         match read {
             TaskLine::Declared { p, q, version } => self.declare(declared(p, q, version)),
@@ -199,9 +195,8 @@ impl Intake {
     /// A line that has one of the forms, which is counted.
     fn take(&mut self, read: TextLine) -> Progress
         requires { IsShort read }
-        ensures stands { (a : TextAccount) → a.standing ≡ feed.Open → KeepsAccount self.old a →
+        ensures { (a : TextAccount) → a.standing ≡ feed.Open → KeepsAccount self.old a →
             StandsAt result self.new (with_line a read (cause_of a read)) }
-        ensures lines { self.new.lines ≡ self.old.lines }
     {
         match read {
             TextLine::Plain(read) => self.take_plain(read),
@@ -217,11 +212,9 @@ impl Intake {
 
     /// Takes a line of the text.
     pub(crate) fn take_line(&mut self, line: &[u8]) -> Progress
-        requires { (ls : List (List ℕ)) × Keeps self.old ls }
-        ensures stands { (ls : List (List ℕ)) → Keeps self.old ls →
+        requires { (ls : List (List ℕ)) × StandsAt progress.Open self.old (account_of_lines ls) }
+        ensures { (ls : List (List ℕ)) → StandsAt progress.Open self.old (account_of_lines ls) →
             StandsAt result self.new (account_of_lines (ls ++ line.now ∷ [])) }
-        ensures keeps { (ls : List (List ℕ)) → Keeps self.old ls → result ≡ progress.Open →
-            Keeps self.new (ls ++ line.now ∷ []) }
     {
         self.lines += 1;
         if self.lines > MOST_LINES {

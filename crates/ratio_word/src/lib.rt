@@ -8,8 +8,7 @@ mod intake;
 mod least;
 mod line_reading;
 mod lines;
-mod talker;
-mod text;
+mod reading;
 mod word;
 
 pub use lines::TextLine;

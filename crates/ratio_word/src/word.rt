@@ -5,11 +5,10 @@ ghost use Rattle.dover_port.specs.Moves.{Since};
 ghost use Rattle.dialogue.specs.Talk.{Talks, CanEnd};
 ghost use Rattle.ratio_word.specs.Talk.{ratio_talk};
 
-use crate::intake::Progress;
-use crate::talker::Reading;
-use crate::text::Text;
+use crate::intake::{Intake, Progress};
+use crate::reading::Text;
 use comparison_count::Comparisons;
-use dialogue::converse;
+use dialogue::converse_in_lines;
 use dover_port::{Port, Status};
 use std::marker::PhantomData;
 use std::sync::ledger::Ledger;
@@ -32,10 +31,10 @@ pub fn ratio_word<P: Port, L: Ledger>(port: &mut P, comparisons: &mut Comparison
         (P.write_faults port.new) }
     ensures stops { StopsWith result (P.calls port.old) (P.calls port.new) }
 {
-    let reading = Reading {
-        text: Text::new(),
+    let text = Text {
+        intake: Intake::new(),
         progress: Progress::Open,
         counts: PhantomData,
     };
-    converse(port, reading, comparisons)
+    converse_in_lines(port, text, comparisons)
 }

@@ -2,11 +2,14 @@
 ghost use Rattle.std.specs.Prelude.{◌≡◌, ◌≤◌, ◌++◌, ◌∷◌, [], length};
 ghost use Rattle.dover_model.specs.Due as due;
 ghost use Rattle.dover_model.specs.Text.{refused_line};
+ghost use Rattle.dialogue.specs.Taking.{IsRefusal};
+ghost use Rattle.dialogue.specs.Turns.{Answers, StopCause, StopsOn};
 ghost use Rattle.dover_port.specs.Causes.{HasCause, StopsAtFailure};
 ghost use Rattle.dover_port.specs.Moves.{PutsThrough};
 ghost use Rattle.event_feed.specs.Kept.{cause_of_fault};
 
-use dover_port::{Failed, Output, Port};
+use crate::Stop;
+use dover_port::{Failed, Output, Port, Status};
 use event_feed::{Cause, FeedFault};
 use line_text::BackLine;
 
@@ -90,4 +93,22 @@ pub fn put_fault<P: Port>(port: &mut P, out: &mut Output, fault: FeedFault) -> R
     ensures stops { StopsAtFailure (P.calls port.old) (P.calls port.new) result }
 {
     put_refused(port, out, fault.line, cause_word(fault.cause))
+}
+
+/// Puts the line that refuses what is read as the answer. Before it nothing is kept back in `out`.
+///
+/// # Errors
+///
+/// `Unwritten` where a write failed.
+pub fn refuse<P: Port>(port: &mut P, out: &mut Output, fault: FeedFault) -> Result<Status, Stop>
+    requires { out.old ≡ [] }
+    ensures answers { Answers (IsRefusal fault) ⊥ (P.moves port.old) (P.moves port.new) out.new result }
+    ensures cause { StopCause result
+        (P.write_faults port.old) (P.write_faults port.new) (P.read_faults port.old) (P.read_faults port.new) }
+    ensures stops { StopsOn result (P.calls port.old) (P.calls port.new) }
+{
+    match put_fault(port, out, fault) {
+        Ok(()) => Ok(Status::Refused),
+        Err(_) => Err(Stop::Unwritten),
+    }
 }

@@ -8,11 +8,14 @@ use Rattle.ratio_word.proofs.answering.answer.Goals as goal
 
 pub returns-in-Ok-clause-says : goal.returns-in-Ok-clause-says
 returns-in-Ok-clause-says g c = λ rules jobs keeps. (
-  in_lines (rules_text (rules_with c.in-Some.k c.args.declared.now.version)
-      ∷ extreme_lines c.args.declared.now.extremes ++ bound_line c.in-Some.k ∷ []),
-  says_done rules jobs c.args.declared.now.extremes keeps.extremes c.in-Some.k c.args.declared.now.version
-      (ap (λ (r : Rules). r.version) keeps.rules_are) (c.in-Some.ensures.found rules jobs keeps),
-  rw c.requires.empty at c.in-Ok.ensures.text.all,
+  tt,
+  (
+    in_lines (rules_text (rules_with c.in-Some.k c.args.declared.now.version)
+        ∷ extreme_lines c.args.declared.now.extremes ++ bound_line c.in-Some.k ∷ []),
+    says_done rules jobs c.args.declared.now.extremes keeps.extremes c.in-Some.k c.args.declared.now.version
+        (ap (λ (r : Rules). r.version) keeps.rules_are) (c.in-Some.ensures.found rules jobs keeps),
+    rw c.requires.empty at c.in-Ok.ensures.text.all,
+  ),
 )
 
 pub returns-in-Err-clause-says : goal.returns-in-Err-clause-says
@@ -27,9 +30,12 @@ returns-in-Err-clause-says g c = λ rules jobs keeps. (
 
 pub returns-in-Ok-put_none-clause-says : goal.returns-in-Ok-put_none-clause-says
 returns-in-Ok-put_none-clause-says g c = λ rules jobs keeps. (
-  in_lines (codes "none" ∷ extreme_lines c.args.declared.now.extremes),
-  says_no rules jobs c.args.declared.now.extremes keeps.extremes (c.in-None.ensures.none rules jobs keeps refl),
-  rw c.requires.empty at c.in-Ok-put_none.ensures.text.all,
+  tt,
+  (
+    in_lines (codes "none" ∷ extreme_lines c.args.declared.now.extremes),
+    says_no rules jobs c.args.declared.now.extremes keeps.extremes (c.in-None.ensures.none rules jobs keeps refl),
+    rw c.requires.empty at c.in-Ok-put_none.ensures.text.all,
+  ),
 )
 
 pub returns-in-Err-put_none-clause-says : goal.returns-in-Err-put_none-clause-says

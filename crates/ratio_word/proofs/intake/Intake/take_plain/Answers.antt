@@ -7,8 +7,8 @@ use Rattle.ratio_word.specs.declared.lines.TextLine.TheVariants.{Plain}
 use Rattle.ratio_word.proofs.Offering.{ends, passed}
 use Rattle.ratio_word.proofs.intake.Intake.take_plain.Goals as goal
 
-pub returns-in-End-clause-stands : goal.returns-in-End-clause-stands
-returns-in-End-clause-stands c = λ a opened keeps.
+pub returns-in-End : goal.returns-in-End
+returns-in-End c = λ a opened keeps.
     subst (λ l. StandsAt c.pass.result c.args.self.now (with_line a (Plain l) (cause_of a (Plain l)))) (sym c.in-End.is)
     (passed a c.args.self.now keeps (Plain End) Ended c.pass.result refl c.pass.ensures.none c.pass.ensures.some
     (λ some version. ends a c.args.self.now keeps some version))
