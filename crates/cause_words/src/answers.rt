@@ -74,6 +74,14 @@ fn why(
     }
 }
 
+/// The line that an answer names, where it is kept. Behind a snapshot the lines of the whole feed are counted.
+fn named<'a>(at: u64, cause: &str, kind: Text, read: &'a Kept) -> Option<&'a [u8]> {
+    if kind == Text::Snapshot && cause != "snapshot" {
+        return None;
+    }
+    read.line(at)
+}
+
 /// Appends why line `at` was refused with this cause.
 fn append_line(
     text: &mut String,
@@ -83,7 +91,7 @@ fn append_line(
     read: &Kept,
 ) -> Result<(), AllocError> {
     let alloc = *text.allocator();
-    match read.line(at) {
+    match named(at, cause, kind, read) {
         Some(line) => {
             if let Some(why) = why(alloc, at, cause, line, kind)? {
                 write!(text, "dover: line {at} is ")?;

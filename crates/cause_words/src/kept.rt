@@ -11,6 +11,8 @@ pub(crate) struct Kept {
     rest: Vec<u8>,
     /// The number of the first line of the text, from 1 on.
     first: u64,
+    /// There was no memory for a piece, so nothing is known of lines any more.
+    lost: bool,
 }
 
 /// How many lines of a text are ended.
@@ -34,11 +36,18 @@ impl Kept {
             text: Vec::new(alloc),
             rest: Vec::new(alloc),
             first: 1,
+            lost: false,
         }
     }
 
     /// Keeps what one more read gave.
-    pub(crate) fn add(&mut self, piece: &[u8]) -> Result<(), AllocError> {
+    pub(crate) fn add(&mut self, piece: &[u8]) {
+        if self.keep(piece).is_err() {
+            self.lost = true;
+        }
+    }
+
+    fn keep(&mut self, piece: &[u8]) -> Result<(), AllocError> {
         self.first = self.first.saturating_add(lines_of(self.text.as_slice()));
         self.rest.clear();
         self.rest.extend_from_slice(unended(self.text.as_slice()))?;
@@ -49,6 +58,9 @@ impl Kept {
 
     /// Line `number` of the input, from 1 on, without its end, where it is kept.
     pub(crate) fn line(&self, number: u64) -> Option<&[u8]> {
+        if self.lost {
+            return None;
+        }
         let mut at = self.first;
         for line in self.text.as_slice().split(|byte| *byte == b'\n') {
             if at == number {

@@ -9,6 +9,7 @@ mod jobs;
 mod kept;
 mod numerals;
 mod said;
+mod tail;
 mod texts;
 mod verdicts;
 mod watched;

@@ -68,7 +68,7 @@ pub(crate) fn append_short(
         );
     }
     match read.line(at) {
-        Some(line) if !line.is_empty() => {
+        Some(line) if !line.is_empty() && kind != Text::Snapshot => {
             write!(text, "dover: line {at} is ")?;
             append_quoted(text, line)?;
             text.push_str(": no line feed ends it, and so it is none\n")

@@ -1,11 +1,9 @@
 //! A port that is watched.
 use crate::answers::reasons;
 use crate::kept::Kept;
+use crate::tail::Tail;
 use dover_port::{Failed, Port, Status};
 use std::alloc::{AllocError, Global};
-
-/// So many bytes of an output hold its last line.
-const ANSWER_BYTES: usize = 200;
 
 /// A port, and what it last read and wrote, so that what was wrong can be told. It is the port in all that is said of
 /// ports. Where there is no memory for that, nothing is kept and nothing told.
@@ -13,16 +11,7 @@ const ANSWER_BYTES: usize = 200;
 pub struct Watched<P: Port + Drop> {
     port: P,
     read: Kept,
-    wrote: Vec<u8>,
-    before: Vec<u8>,
-}
-
-/// The last bytes of a text.
-fn tail(text: &[u8]) -> &[u8] {
-    match text.len().checked_sub(ANSWER_BYTES) {
-        Some(from) => text.get(from..).unwrap_or(text),
-        None => text,
-    }
+    wrote: Tail,
 }
 
 impl<P: Port + Drop> Watched<P> {
@@ -31,32 +20,8 @@ impl<P: Port + Drop> Watched<P> {
         Watched {
             port,
             read: Kept::new(alloc),
-            wrote: Vec::new(alloc),
-            before: Vec::new(alloc),
+            wrote: Tail::new(alloc),
         }
-    }
-
-    fn keep_read(&mut self, piece: &[u8]) {
-        let _ = self.read.add(piece);
-    }
-
-    fn keep_written(&mut self, piece: &[u8]) {
-        std::mem::swap(&mut self.before, &mut self.wrote);
-        self.wrote.clear();
-        let _ = self.wrote.extend_from_slice(tail(piece));
-    }
-
-    /// The last line that was written, without its end, if it is text.
-    fn answer(&self, alloc: Global) -> Result<String, AllocError> {
-        let mut bytes = Vec::from_slice(alloc, self.before.as_slice())?;
-        bytes.extend_from_slice(self.wrote.as_slice())?;
-        let mut last: &[u8] = &[];
-        for line in bytes.as_slice().split(|byte| *byte == b'\n') {
-            if !line.is_empty() {
-                last = line;
-            }
-        }
-        String::from_str(alloc, std::str::from_utf8(last).unwrap_or(""))
     }
 
     /// What is said of a run of these words that ended with this status: the lines of it, each with its end. Where the
@@ -76,7 +41,7 @@ impl<P: Port + Drop> Watched<P> {
         if status != Status::Refused && status != Status::No {
             return Ok(text);
         }
-        let answer = self.answer(alloc)?;
+        let answer = self.wrote.last_line(alloc)?;
         reasons(&mut text, words, answer.as_str(), &self.read, elsewhere)?;
         Ok(text)
     }
@@ -96,7 +61,7 @@ impl<P: Port + Drop> Port for Watched<P> {
     fn read(&mut self, buf: &mut [u8]) -> Result<usize, Failed> {
         match self.port.read(buf) {
             Ok(count) => {
-                self.keep_read(&buf[..count]);
+                self.read.add(&buf[..count]);
                 Ok(count)
             }
             Err(failed) => Err(failed),
@@ -106,7 +71,7 @@ impl<P: Port + Drop> Port for Watched<P> {
     fn write(&mut self, bytes: &[u8]) -> Result<usize, Failed> {
         match self.port.write(bytes) {
             Ok(count) => {
-                self.keep_written(&bytes[..count]);
+                self.wrote.add(&bytes[..count]);
                 Ok(count)
             }
             Err(failed) => Err(failed),
