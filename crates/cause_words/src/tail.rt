@@ -12,7 +12,7 @@ pub(crate) struct Tail {
 }
 
 /// The last bytes of a text.
-fn tail(text: &[u8]) -> &[u8] {
+fn end_of(text: &[u8]) -> &[u8] {
     match text.len().checked_sub(ANSWER_BYTES) {
         Some(from) => text.get(from..).unwrap_or(text),
         None => text,
@@ -31,7 +31,7 @@ impl Tail {
     pub(crate) fn add(&mut self, piece: &[u8]) {
         std::mem::swap(&mut self.before, &mut self.last);
         self.last.clear();
-        let _ = self.last.extend_from_slice(tail(piece));
+        let _ = self.last.extend_from_slice(end_of(piece));
     }
 
     /// The last line, without its end, if it is text.
