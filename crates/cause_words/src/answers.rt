@@ -167,7 +167,7 @@ fn append_refused(
         ["front"] => text.push_str("dover: there are fewer than L jobs\n"),
         ["window", task, gets] => append_window(text, task, number(gets), read),
         ["ratio", task, other] => append_tasks(text, task, other),
-        [at, "short"] => append_short(text, number(at), kind, read),
+        [at, "short"] => append_short(text, number(at), kind.refusing(), read),
         [at, cause] => append_line(text, number(at), cause, kind, read),
         _ => Ok(()),
     }

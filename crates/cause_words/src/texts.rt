@@ -62,6 +62,14 @@ impl Text {
         }
     }
 
+    /// The text of which lines are refused, where this one is read.
+    pub(crate) fn refusing(self) -> Text {
+        match self {
+            Text::TasksAndTrace => Text::Tasks,
+            kind => kind,
+        }
+    }
+
     pub(crate) fn has_jobs(self) -> bool {
         matches!(self, Text::Feed | Text::FeedOrTasks | Text::Snapshot)
     }
