@@ -1,5 +1,5 @@
 /* An on-line scheduler for one processor under overload (D-over), as a library. What each call answers is proved;
-   docs/LIVE.md says what that is worth and what is trusted.
+   docs/EMBEDDING.md says what that is worth and what is trusted.
 
    Units   A tick is whatever the caller counts: a microsecond, a millisecond, a frame. Releases, deadlines and marks
            are ticks from 0 to 10,000,000,000,000,000, in versions 1 and 2 to 1,000,000,000,000; work is in ticks; value
@@ -45,7 +45,8 @@ extern "C" {
 #define DOVER_WORDS 90
 typedef struct { uint64_t opaque[DOVER_WORDS]; } dover;
 
-/* How many bytes an engine takes: at most sizeof(dover). Test it once, at the start. */
+/* How many bytes an engine takes: at most sizeof(dover), as the prover holds of the library of this header. Test it once,
+   at the start: it tells a library of another version. */
 size_t dover_size(void);
 
 /* Makes an engine in the place, whatever its bytes are. dover_status says whether there is one. Called again without a

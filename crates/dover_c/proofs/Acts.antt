@@ -42,6 +42,10 @@ given_of None = refl
 given_of (Some (Release n job)) = refl
 given_of (Some d) = refl
 
+pub shown_none : (answer : Option Decision) → event_in answer ≡ None → numbers_of answer ≡ numbers_of None
+shown_none None is = refl
+shown_none (Some d) is = none_is_some (sym is)
+
 -- kind 0 is none
 pub kind_none : (answer : Option Decision) → (numbers_of answer).kind ≡ 0 → answer ≡ None
 kind_none None e = refl
@@ -116,6 +120,12 @@ calls_it none Says v s t there does = elim there [
       inr (it.0, ap (λ (x : Slot). x.engine) it.1 ∙ gone)
 ]
 
+-- an engine that is there is called
+pub called : (none : Type 0) (Says : Life → Life → Type 0) (v : Life) (s t : Slot) → s.engine ≡ Some v
+    → Calls s t none Says → (w : Life) × (t.engine ≡ Some w) × Says v w
+called none Says v s t here does = let it = subst (λ o. CallsOn o s t none Says) here does in
+    (it.0, ap (λ (x : Slot). x.engine) it.1, it.2)
+
 -- a step to a mark was taken
 abbrev pub IsTaken : ℕ → Decided → Life → Life → Type 0
 IsTaken mark answer v w = (decision : Option Decision)
@@ -134,6 +144,17 @@ steps_or_not mark answer v w it = by_says it.says it.step it.shown where
   ] → IsTaken mark answer v w ⊎ IsRefused answer v w
   by_says (Ok decision) step so = inl (decision, step, so)
   by_says (Err cause) step so = inr (cause, step.1, so)
+
+-- it was where there is no cause to refuse it
+pub unrefused_taken : (mark : ℕ) (answer : Decided) (v w : Life)
+    → engine.mark_refusal v.admission.rules.version v.last mark ≡ None → Steps mark answer v w → IsTaken mark answer v w
+unrefused_taken mark answer v w may it = by_says it.says it.step it.shown where
+  by_says : (says : Result (Option Decision) NotStepped) → IsStepOf mark v w says → answer ≡ elim says [
+    | Ok decision ↦ numbers_of decision
+    | Err cause ↦ refused cause
+  ] → IsTaken mark answer v w
+  by_says (Ok decision) step so = (decision, step, so)
+  by_says (Err cause) step so = none_is_some (sym may ∙ step.0)
 
 -- it was where the answer is a decision or none
 pub step_taken : (v : Life) (s t : Slot) (mark : ℕ) (answer : Decided) → MayHave s v → StepAnswers mark s t answer

@@ -1,9 +1,9 @@
 -- What a program in C is given.
 use Rattle.std.proofs.Common.{◌≡◌, ℕ, ◌≤◌, ◌+◌, List, [], ◌∷◌, ◌++◌, map, refl, sym, ap, ◌∙◌, subst, cond, append-nil}
 use Rattle.std.proofs.Common.{Bool, true, false, inl, inr, Option, Some, None, ◌==◌, ◌||◌, not, nat_lt, nat_le, arith}
-use Rattle.std.proofs.Common.{sum_by}
+use Rattle.std.proofs.Common.{sum_by, option_map}
 use Rattle.std.specs.List.{enumerate_from}
-use Rattle.std.proofs.lemmas.Bool.{and_parts, or_right}
+use Rattle.std.proofs.lemmas.Bool.{and_parts, le-ltb, or_right}
 use Rattle.std.proofs.lemmas.List.{map-append}
 use Rattle.std.proofs.lemmas.List.Sums.{sum_by-cons}
 use Rattle.dover_model.specs.declared.events.Event.{Event}
@@ -12,26 +12,31 @@ use Rattle.dover_model.specs.declared.events.Version.{Version}
 use Rattle.dover_model.specs.Common.{version_of_number, Fraction, is_ratio, is_some_factor, fraction, JobFacts}
 use Rattle.dover_model.specs.Common.{observed, most_ready, Instance, total_value, printed, completed_value, settled}
 use Rattle.dover_model.specs.Common.{Each, Prints, takes_or_abandons, Meets, worth, IsWithin, is_end_given, no_jobs}
-use Rattle.dover_model.specs.Common.{version_number, Turn, turn_under, anew}
+use Rattle.dover_model.specs.Common.{version_number, Turn, turn_under, anew, Declaration, last_tick_in, with_finishes}
 use Rattle.dover_model.proofs.texts.TraceLines.{version_back}
 use Rattle.dover_model.specs.Finishes as early
 use Rattle.dover_model.proofs.lists.Members.{some_same}
 use Rattle.dover_model.proofs.lists.Tests.{never}
 use Rattle.dover_model.specs.declared.horizon.Horizon.TheVariants as horizon
+use Rattle.dover_engine.specs.declared.causes.NotStepped.TheVariants.{Falls, Late}
+use Rattle.dover_engine.specs.declared.decision.Decision.{Decision}
 use Rattle.dover_engine.specs.Decisions.{event_in}
-use Rattle.dover_engine.specs.Life.{Life, has_ended, done_value}
+use Rattle.dover_engine.specs.Life.{Life, has_ended, done_value, successor_of}
 use Rattle.dover_engine.specs.Given.{Gave}
 use Rattle.dover_engine.specs.Calls as engine
 use Rattle.dover_engine.specs.Restarts as engines
 use Rattle.dover_engine.proofs.LifeLaws as life
 use Rattle.dover_engine.proofs.Restarting as restarts
+use Rattle.dover_engine.proofs.Succeeding as succeeding
 use Rattle.dover_c.proofs.Acts.{turned_twice, one_step, told_append, finishes_append, apart, kind_none}
 use Rattle.dover_c.proofs.Acts.{kind_end, leads_append, MayHave, calls_it, step_taken, shown_event}
-use Rattle.dover_c.proofs.Acts.{may_end, Turned, turn_all}
+use Rattle.dover_c.proofs.Acts.{may_end, Turned, turn_all, called, unrefused_taken, shown_none}
 use Rattle.dover_c.specs.declared.Decided.{Decided}
+use Rattle.dover_c.specs.declared.Named.{Named}
 use Rattle.dover_c.specs.declared.Restarted.{Restarted}
 use Rattle.dover_c.specs.declared.slot.Slot.{Slot}
-use Rattle.dover_c.specs.Codes.{made_status, shown, Stands, IsFresh, RestartAnswers}
+use Rattle.dover_c.specs.Codes.{made_status, shown, Stands, IsFresh, RestartAnswers, CallsOn, Ends, SuccessorAnswers}
+use Rattle.dover_c.specs.Codes.{named_of, numbers_of, shown_next}
 use Rattle.dover_c.specs.Program.{Act, Done, Step, Finish, DoesAll, IsProgram, told, jobs_told, finishes_told, all_told}
 use Rattle.dover_c.specs.Program.{is_decision, given, Past, DoesPast, turn_told, told_anew}
 
@@ -72,6 +77,28 @@ engine_made k version capacity status None why is =
     absurd (some_status (not ((version == 1) || (version == 2) || (version == 3) || (version == 4)))
     (not (is_ratio (fraction k.p k.q))) (not (is_some_factor k.factor)) (nat_lt most_ready capacity) (sym why ∙ is))
 engine_made k version capacity status (Some v) it is = (v, refl, it.1)
+
+-- ---- at a mark at which all was given
+
+-- the version of an engine
+version_in : (v : Life) (J : Instance) (es : List Event) → Gave v J es → v.admission.rules.version ≡ J.rules.version
+version_in v J es it = ap (λ (d : Declaration). d.version) it.gave.rules
+
+-- no step to the last mark is refused
+unrefused : (version : Version) (tick : ℕ) → tick ≤ last_tick_in version → (v : Life)
+    → v.admission.rules.version ≡ version → v.last ≡ horizon.Mark tick
+    → engine.mark_refusal v.admission.rules.version v.last tick ≡ None
+unrefused version tick within v is last = ap (λ which. engine.mark_refusal which v.last tick) is
+    ∙ ap (λ h. engine.mark_refusal version h tick) last
+    ∙ ap (λ b. cond b (Some Falls) (cond (nat_lt (last_tick_in version) tick) (Some Late) None))
+    (le-ltb tick tick (omega arith))
+    ∙ ap (λ b. cond b (Some Late) None) (le-ltb (last_tick_in version) tick within)
+
+-- what is given where this job is named
+shown_named : (tick : ℕ) (answer : Option Decision) (o : Option ℕ)
+    → event_in answer ≡ option_map (events.Run tick) o → numbers_of answer ≡ shown_next tick (named_of o)
+shown_named tick answer None is = shown_none answer is
+shown_named tick answer (Some n) is = shown_event answer (events.Run tick n) is
 
 -- ---- from restart to restart
 
@@ -316,6 +343,43 @@ module _ (version : Version) (k : Fraction) (capacity : ℕ) (pasts : List Past)
             (w, ends.ok refl, (x, leads, refl))))
         | inr none ↦ apart 0 7 refl none.0
       ]
+
+  -- and behind that the job runs which was named
+  pub named_given : (acts : List Act) (tick : ℕ) (named : Named) (f : early.Finish) (first second : Decided) (s t : Slot)
+      → IsProgram version k capacity pasts acts s → SuccessorAnswers s s named → tick ≤ last_tick_in version
+      → DoesAll (Done tick f 0 ∷ Step tick first ∷ Step tick second ∷ []) s t → second ≡ shown_next tick named
+  named_given acts tick named f first second s t program asked within does = elim it.there [
+    | inl here ↦
+        let (u, there, ends) = called _ _ it.w s does.0 here does.1 in
+        let done = ends.ok refl in
+        let gave = done.gave J (engine.decided it.calls) stands in
+        let at : u.last ≡ horizon.Mark tick = done.last ∙ done.may.ready.1 in
+        let (x, there_too, one) = called _ _ u does.0 does.2.0 there does.2.1 in
+        let (a, leads, so) = unrefused_taken tick first u x
+        (unrefused version tick within u (version_in u (with_finishes J (f ∷ [])) _ gave) at) one in
+        let (y, there_still, two) = called _ _ x does.2.0 does.2.2.0 there_too does.2.2.1 in
+        let (b, leads_on, is) = unrefused_taken tick second x y
+        (unrefused version tick within x
+        (version_in x (with_finishes J (f ∷ [])) _ (leads.1.gave (with_finishes J (f ∷ [])) _ gave)) leads.1.last) two in
+        let (z, same, says) = called _ _ it.w s s here asked in
+        is ∙ shown_named tick b (successor_of it.w)
+        (succeeding.named_next version k it.calls tick f a b it.w y (lives acts s program)
+        (u, done, (x, leads, (y, leads_on, refl))))
+        ∙ ap (shown_next tick) (sym says.0)
+    | inr gone ↦ apart 0 7 refl (called_none gone)
+  ] where
+    it : Turned (past acts s program).w acts s
+    it = now acts s program
+
+    J : Instance
+    J = engine.all_jobs version k it.calls
+
+    stands : Gave it.w J (engine.decided it.calls)
+    stands = life.stood version k it.calls it.w (lives acts s program)
+
+    -- with no engine the answer is 7
+    called_none : s.engine ≡ None → ◌≡◌ {A = ℕ} 0 7
+    called_none gone = (subst (λ o. CallsOn o s does.0 (◌≡◌ {A = ℕ} 0 7) (Ends tick f 0)) gone does.1).0
 
   pub ended_given : (acts : List Act) (answer : Decided) (t : Slot)
       → IsProgram version k capacity pasts (acts ++ (Finish answer ∷ [])) t

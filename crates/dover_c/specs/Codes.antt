@@ -260,6 +260,10 @@ abbrev pub SuccessorAnswers : Slot → Slot → Named → Type 0
 SuccessorAnswers s t answer = Calls s t (answer ≡ record { job = 0; status = 7 })
     (λ v w. (answer ≡ named_of (successor_of v)) × (w ≡ v))
 
+-- at this tick the processor goes to the job that is named, and where none is, there is no decision
+abbrev pub shown_next : (tick : ℕ) → Named → Decided
+shown_next tick named = if named.status == 0 then shown (Run tick named.job) else numbers_of None
+
 -- the value of all jobs that completed is told by its low word and its high one, and nothing changed
 abbrev pub ValueAnswers : Slot → Slot → ℕ → Type 0
 ValueAnswers s t answer = Calls s t (answer ≡ 0) (λ v w. (answer ≡ low_word (done_value v)) × (w ≡ v))

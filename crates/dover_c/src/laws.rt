@@ -2,7 +2,7 @@
 //! function that does nothing. The contracts of the calls are its premises, so it rests on the program's keeping what
 //! they require.
 ghost use Rattle.dover_model.specs.Common.{Fraction, total_value, observed, printed, completed_value, settled, Each};
-ghost use Rattle.dover_model.specs.Common.{Meets, worth, IsWithin};
+ghost use Rattle.dover_model.specs.Common.{Meets, worth, IsWithin, last_tick_in};
 ghost use Rattle.std.specs.Prelude.{◌≡◌, ◌≤◌, ◌+◌, ◌++◌, ℕ, List, [], ◌∷◌, map, true};
 ghost use Rattle.std.specs.List.{enumerate_from, sum_by};
 ghost use Rattle.dover_model.specs.declared.events.Version.{Version};
@@ -10,15 +10,17 @@ ghost use Rattle.dover_model.specs.declared.events.Event.TheVariants.{Complete};
 ghost use Rattle.dover_model.specs.Finishes as early;
 ghost use Rattle.dover_c.specs.declared.slot.Slot.{Slot};
 ghost use Rattle.dover_c.specs.declared.Decided.{Decided};
+ghost use Rattle.dover_c.specs.declared.Named.{Named};
 ghost use Rattle.dover_c.specs.Program.{Act, Past, Done, Step, Finish, IsProgram, told, jobs_told, finishes_told};
-ghost use Rattle.dover_c.specs.Program.{all_told, told_anew, is_decision, given};
-ghost use Rattle.dover_c.specs.Codes.{shown};
+ghost use Rattle.dover_c.specs.Program.{all_told, told_anew, is_decision, given, DoesAll};
+ghost use Rattle.dover_c.specs.Codes.{shown, shown_next, SuccessorAnswers};
 
 /// The jobs that the program was told were admitted have the numbers 0, 1, 2 and so on. Where a step to a mark answers
 /// that none comes, the decisions that were given are all that is settled there of the run of all those jobs, in which
-/// those that it was told are done finish early; behind one that is done the next decision is its completion; with the
-/// End they are the whole run; at any moment, also behind a drop, they begin it; and none that was given is changed by
-/// what comes later. No schedule of all those jobs, as they were declared or as they were observed, is worth more than
+/// those that it was told are done finish early; behind one that is done the next decision is its completion, and the
+/// one behind it at the same mark that the job runs which was named as next, or none where none was; with the End they
+/// are the whole run; at any moment, also behind a drop, they begin it; and none that was given is changed by what
+/// comes later. No schedule of all those jobs, as they were declared or as they were observed, is worth more than
 /// the ratio allows that run. Of the jobs as observed, which are as declared where none was done early, some schedule
 /// is worth as much as it completes. Where one schedule serves all of them as declared, it completes all, and no
 /// decision that was given is a take or an abandonment.
@@ -41,6 +43,10 @@ pub fn a_program_is_given_one_run()
         (f : early.Finish) (answer : Decided) (t : Slot) →
         IsProgram version k capacity pasts (acts ++ (Done tick f 0 ∷ Step mark answer ∷ [])) t →
         is_decision answer ≡ true → answer ≡ shown (Complete tick f.number) }
+    ensures successor { (version : Version) (k : Fraction) (capacity : ℕ) (pasts : List Past) (acts : List Act)
+        (tick : ℕ) (named : Named) (f : early.Finish) (first second : Decided) (s t : Slot) →
+        IsProgram version k capacity pasts acts s → SuccessorAnswers s s named → tick ≤ last_tick_in version →
+        DoesAll (Done tick f 0 ∷ Step tick first ∷ Step tick second ∷ []) s t → second ≡ shown_next tick named }
     ensures ended { (version : Version) (k : Fraction) (capacity : ℕ) (pasts : List Past) (acts : List Act)
         (answer : Decided) (t : Slot) →
         IsProgram version k capacity pasts (acts ++ (Finish answer ∷ [])) t → answer.kind ≡ 7 →

@@ -14,6 +14,7 @@ use dover_engine::{Decision, Engine, NotAdmitted, NotDone, NotMade, NotRestarted
 use dover_model::{Ratio, Version};
 use std::alloc::Global;
 use std::marker::Brand;
+use std::mem::size_of;
 use std::rt::Memory;
 use std::sync::ledger::{Blank, Ledger};
 
@@ -26,6 +27,9 @@ pub struct Slot {
     status: u32,
     engine: Option<Engine>,
 }
+
+// DOVER_WORDS of include/dover.h.
+const _: () = prove!(size_of::<Slot>() <= 720);
 
 fn made_code(cause: NotMade) -> u32
     ensures { result ≡ made_code cause }

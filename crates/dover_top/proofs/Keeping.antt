@@ -42,6 +42,9 @@ use Rattle.trial_words.specs.Dueled.{duel_front}
 use Rattle.trial_words.specs.Lists.{trial_instance}
 use Rattle.trial_words.specs.Baited.{bait_instance}
 use Rattle.dover_top.specs.Promises.{KeepsPromises, IsTraceOf, IsResumed, IsAccepted, KeepsBaits, IsRun, KeepsDuel}
+use Rattle.task_report.specs.Behind.{behind}
+use Rattle.task_report.specs.Talk.{task_report_talk}
+use Rattle.task_report.specs.declared.form.TaskForm.{TaskForm}
 use Rattle.dover_model.proofs.sessions.SessionParts.{session_jobs}
 use Rattle.dover_model.proofs.valid.ValidParts.{valid_parts}
 
@@ -106,14 +109,20 @@ resumed_so at_end moves (inr it) = record {
 
 -- ---- a text that was judged, a feed that was asked about, and stated lists
 
-pub accepted : (moves : List Move) → IsTrace (ins moves) → IsAccepted moves
-accepted moves it = record {
+pub accepted : (bytes : List ℕ) → IsTrace bytes → IsAccepted bytes
+accepted bytes it = record {
   session = it.0;
   valid = it.1;
-  text = (accepted_is_trace (ins moves) it.0 it.2).1;
+  text = (accepted_is_trace bytes it.0 it.2).1;
   accepted = it.2;
   promises = promises_of (instance_of it.0) (session_jobs it.1);
 }
+
+pub reported : (form : TaskForm) (ended : Bool) (text : List ℕ) (moves : List Move)
+    → (task_report_talk form).answer (ins moves) ended Done text → IsAccepted (behind (ins moves))
+reported form ended text moves (inl refused) = absurd (let e : Done ≡ Refused = refused.0 in cc)
+reported form ended text moves (inr said) =
+    accepted (behind (ins moves)) (said.1.session, said.1.valid, said.1.accepted)
 
 pub ran : (says : asked.Says) (ended : Bool) (text : List ℕ) (moves : List Move)
     → (asked.ask_talk says).answer (ins moves) ended Done text → IsRun moves

@@ -2,7 +2,9 @@ pub mod Keeping
 pub mod ToldSure
 pub mod Budgeted
 pub mod SoFar
+pub mod Resumed
 pub mod ServedLanes
 pub mod Asking
 pub mod Numbers
+pub mod Legal
 pub mod Saying

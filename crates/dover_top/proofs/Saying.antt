@@ -27,11 +27,13 @@ use Rattle.dover_top.specs.declared.request.Request.TheVariants.{Serve, Judge, R
 use Rattle.dover_top.specs.declared.request.Request.TheVariants.{Resume, Unroll, Duel, Draw, Sure, Budget, Ratio}
 use Rattle.dover_top.specs.declared.request.Request.TheVariants.{Schedule, ReportTasks}
 use Rattle.dover_top.proofs.Asking.{asks_one}
-use Rattle.dover_top.proofs.Keeping.{served, traced, resumed_so, accepted, ran, generated, baited, dueled}
+use Rattle.dover_top.proofs.Keeping.{served, traced, resumed_so, accepted, reported, ran, generated, baited, dueled}
 use Rattle.dover_top.proofs.ToldSure.{told_sure}
 use Rattle.dover_top.proofs.Budgeted.{budgeted_so}
+use Rattle.dover_top.proofs.Legal.{legal_so}
 use Rattle.dover_top.proofs.ServedLanes.{are_served, have_ended}
-use Rattle.dover_top.proofs.SoFar.{kept_so, served_so_far, resumed_so_far}
+use Rattle.dover_top.proofs.Resumed.{resumed_so_far}
+use Rattle.dover_top.proofs.SoFar.{kept_so, served_so_far}
 
 -- ---- Usage
 
@@ -99,10 +101,13 @@ module _ (moves : List Move) where
     served_so_far ends.Refuse status (ins moves) (outs moves) (has_ended moves) s.ends,
     (λ done. traced (ins moves) (has_ended moves) (outs moves) (at Serve status s done).ends.answer),
   )
-  keeps_of words Judge asks status s = λ done. accepted moves (at Judge status s done).ends.answer.0
-  keeps_of words (Report form) asks status s = λ done. accepted moves (at (Report form) status s done).ends.answer.0
-  keeps_of words (Schedule form) asks status s = tt
-  keeps_of words (ReportTasks form) asks status s = tt
+  keeps_of words Judge asks status s = λ done. accepted (ins moves) (at Judge status s done).ends.answer.0
+  keeps_of words (Report form) asks status s = λ done.
+      accepted (ins moves) (at (Report form) status s done).ends.answer.0
+  keeps_of words (Schedule form) asks status s = λ done.
+      legal_so form moves (at (Schedule form) status s done).ends.answer
+  keeps_of words (ReportTasks form) asks status s = λ done.
+      reported form (has_ended moves) (outs moves) moves (at (ReportTasks form) status s done).ends.answer
   keeps_of words (Trial seed count k) asks status s = λ done. generated k seed count asks.allowed asks.few
   keeps_of words (Bait k rounds) asks status s = λ done.
       bait_kept k rounds (baited k rounds asks.allowed asks.some) (at (Bait k rounds) status s done)

@@ -19,17 +19,13 @@ use Rattle.dover_model.proofs.finishes.Meeting.{given_by}
 use Rattle.dover_model.proofs.lists.Members.{some_same, member_front, heads, tails}
 use Rattle.dover_model.proofs.runs.Runs.{none_lost}
 use Rattle.dover_model.proofs.lists.Tests.{none_is_some}
-use Rattle.dover_port.specs.Moves.{Move, outs, has_ended}
 use Rattle.dover_port.specs.declared.status.Status.{Status}
 use Rattle.dover_port.specs.declared.status.Status.TheVariants.{Done, No, Refused, ReadFault, WriteFault, Memory, Usage}
 use Rattle.dialogue.specs.Talk.{Talk, Ends}
 use Rattle.dialogue.specs.Sizes.{size_text}
 use Rattle.feed_words.specs.serve.Talk.{feed_talk, IsServedAs}
-use Rattle.feed_words.specs.serve.Keeping.{serve_talk}
 use Rattle.feed_words.specs.declared.serve.at_end.AtEnd.{AtEnd}
-use Rattle.feed_words.specs.resume.Record as resumed
-use Rattle.feed_words.proofs.serve.Talking.{whole_due}
-use Rattle.dover_top.specs.Promises.{IsKept, IsServedSoFar, IsResumedSoFar, Agree, decided}
+use Rattle.dover_top.specs.Promises.{IsKept, IsServedSoFar, Agree, decided}
 use Rattle.dover_top.proofs.Keeping.{promises_of}
 
 -- ---- the jobs of a session are valid, at a fault too
@@ -191,7 +187,7 @@ kept_so feed S named =
 -- ---- what was written
 
 -- of two beginnings of a list one begins the other
-begins_two : {X : Type 0} (xs ys zs : List X) → Begins xs zs → Begins ys zs → Begins xs ys ⊎ Begins ys xs
+pub begins_two : {X : Type 0} (xs ys zs : List X) → Begins xs zs → Begins ys zs → Begins xs ys ⊎ Begins ys xs
 begins_two [] ys zs one other = inl (ys, refl)
 begins_two (x ∷ xs) [] zs one other = inr (x ∷ xs, refl)
 begins_two (x ∷ xs) (y ∷ ys) [] one other = absurd (omega (arith, ap length one.1))
@@ -205,11 +201,11 @@ begins_two {X} (x ∷ xs) (y ∷ ys) (z ∷ zs) one other = by_rest (begins_two 
       by_rest (inr it) = inr (it.0, ap (λ l. x ∷ l) it.1 ∙ ap (λ v. v ∷ (ys ++ it.0)) same)
 
 -- the lines that are decided, as a text
-abbrev decided_text : List ℕ → List ℕ
+abbrev pub decided_text : List ℕ → List ℕ
 decided_text x = in_lines (decided_lines (account x))
 
 -- what is due begins with them
-due_has : (x : List ℕ) → Begins (decided_text x) (due x)
+pub due_has : (x : List ℕ) → Begins (decided_text x) (due x)
 due_has x = let a = account x in
     (in_lines (fault_lines a.standing), in_lines-append (decided_lines a) (fault_lines a.standing))
 
@@ -218,7 +214,7 @@ due_then_has x rest =
     begins_onward (decided_text x) (due x) (due x ++ rest) (due_has x) (begins_all (due x) rest)
 
 -- so does each text that answers
-answer_has : (at_end : AtEnd) (x : List ℕ) (ended : Bool) (status : Status) (text : List ℕ)
+pub answer_has : (at_end : AtEnd) (x : List ℕ) (ended : Bool) (status : Status) (text : List ℕ)
     → IsServedAs at_end x ended status text → Begins (decided_text x) text
 answer_has at_end x ended Done text (inl it) = subst (Begins (decided_text x)) (sym it.1) (due_has x)
 answer_has at_end x ended Done text (inr it) =
@@ -240,7 +236,7 @@ module _ (t : Talk) (got put : List ℕ) (ended : Bool) (front dec : List ℕ) (
   cut : (whole : List ℕ) → Begins put whole → Begins dec (front ++ whole) → Agree (front ++ put) dec
   cut whole some all = begins_two (front ++ put) dec (front ++ whole) (begins_behind front put whole some) all
 
-  agrees : (status : Status) → Ends t status got put ended → Agree (front ++ put) dec
+  pub agrees : (status : Status) → Ends t status got put ended → Agree (front ++ put) dec
   agrees Done it = inr (answers Done put it.answer)
   agrees No it = inr (answers No put it.answer)
   agrees Refused it = inr (answers Refused put it.answer)
@@ -258,21 +254,3 @@ served_so_far at_end status x put ended it = record {
   text = agrees (feed_talk at_end) x put ended [] (decided_text x) (due_has x)
       (λ s text answer. answer_has at_end x ended s text answer) status it;
 }
-
--- one that was served on behind its snapshot
-pub resumed_so_far : (at_end : AtEnd) (status : Status) (moves : List Move) → resumed.Ends at_end status moves
-    → resumed.EndsBefore status moves ⊎ IsResumedSoFar moves
-resumed_so_far at_end status moves (inl before) = inl before
-resumed_so_far at_end status moves (inr it) = inr (record {
-  feed = it.feed;
-  more = it.more;
-  may = it.may;
-  read = it.read;
-  each = λ F H may read. record {
-    kept = kept_so (F ++ H);
-    text = agrees (serve_talk at_end F) H (outs moves) (has_ended moves) (due F) (decided_text (F ++ H))
-        (subst (Begins (decided_text (F ++ H))) (sym (whole_due F H)) (due_has (F ++ H)))
-        (λ s text answer. answer_has at_end (F ++ H) (has_ended moves) s (due F ++ text) answer) status
-        (it.each F H may read);
-  };
-})

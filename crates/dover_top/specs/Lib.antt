@@ -1,6 +1,7 @@
 pub mod Promises
 pub mod SureTasks
 pub mod BudgetTasks
+pub mod LegalSchedules
 pub mod Words
 pub mod Requests
 pub mod Says

@@ -17,6 +17,7 @@ use Rattle.trial_words.specs.Baited.{bait_instance}
 use Rattle.trial_words.specs.Dueled.{duel_front}
 use Rattle.lane_server.specs.Lanes.{Closed, lane_count, input}
 use Rattle.lane_server.specs.Alone.{lane_feed, text_of_lane, served_alone}
+use Rattle.snapshot.specs.Snapshot.{MayPause, snapshot}
 use Rattle.feed_words.specs.resume.Record.{Behind}
 
 -- what stands of the run of a valid list of jobs, whichever of them finish early
@@ -96,17 +97,18 @@ abbrev pub IsResumed : List Move → Type 0
 IsResumed moves = Behind (ins moves)
     (λ F H. is_ended (account (F ++ H)) ≡ true → IsTraceOf (F ++ H) (due F ++ outs moves))
 
--- Of each feed whose snapshot was read, and what follows it: what was due where it was paused, and what was written
--- behind that, serve the whole feed so far.
+-- Of each feed whose snapshot was read whole, and what follows it: what was due where it was paused, and what was
+-- written behind that, serve the whole feed so far.
 abbrev pub IsResumedSoFar : List Move → Type 0
-IsResumedSoFar moves = Behind (ins moves) (λ F H. IsServedSoFar (F ++ H) (due F ++ outs moves))
+IsResumedSoFar moves = (F H : List ℕ) → MayPause F → ins moves ≡ snapshot F ++ H
+    → IsServedSoFar (F ++ H) (due F ++ outs moves)
 
--- the text that was read is the trace of a valid session
-pub record IsAccepted (moves : List Move) : Type 0 where
+-- these bytes are the trace of a valid session
+pub record IsAccepted (bytes : List ℕ) : Type 0 where
   pub session : Session
   pub valid : IsValidSession session
-  pub text : ins moves ≡ trace_of_session session
-  pub accepted : verdict (ins moves) ≡ Accepted session
+  pub text : bytes ≡ trace_of_session session
+  pub accepted : verdict bytes ≡ Accepted session
   pub promises : KeepsPromises (instance_of session)
 
 -- what stands of the run of these baiting jobs

@@ -177,7 +177,7 @@ pub record AsksUnroll (words : List (String Global)) (until : ℕ) : Type 0 wher
   pub row : spelled words ≡ codes "unroll" ∷ decimal until ∷ []
   pub known : until ≤ last_tick_in Two
 
--- the one word that asks of each task whether a job of it can be lost
+-- the one word that asks of each task whether it passes a test by which no job of it is lost
 abbrev pub AsksSure : List (String Global) → Type 0
 AsksSure words = spelled words ≡ codes "sure" ∷ []
 

@@ -64,7 +64,7 @@ pub enum Request {
     Unroll {
         until: u64,
     },
-    /// Of each task, whether a job of it can be lost.
+    /// Of each task, whether it passes a test by which no job of it is lost.
     Sure,
     /// The least ratio that the jobs of a feed, or tasks, keep is told.
     Ratio,

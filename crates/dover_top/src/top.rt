@@ -31,10 +31,10 @@ use std::sync::ledger::Ledger;
 /// - `report any csv`, `report any timeline [FROM UNTIL]` and `report any svg [FROM UNTIL]` read a schedule that any
 ///   policy may have made, and write the same on it where it is legal, without intervals and bound, else the line that
 ///   is wrong first and why, or that it is short. More jobs than version Two may have are refused.
-/// - `report tasks` reads periodic tasks and a trace behind them, and writes what became of the jobs of each task, or
-///   else the line that `judge` writes. `report tasks timeline [FROM UNTIL]` and `report tasks svg [FROM UNTIL]` write
-///   the picture of its run in place of that, with the jobs of each task by themselves; a trace that `report` would
-///   refuse is refused.
+/// - `report tasks` reads periodic tasks and a trace behind them, and writes of each task what became of the jobs that
+///   have its numbers, or else the line that `judge` writes. `report tasks timeline [FROM UNTIL]` and `report tasks svg
+///   [FROM UNTIL]` write the picture of its run in place of that, with the jobs of each task by themselves; they alone
+///   refuse a trace that `report` would.
 /// - `trial SEED COUNT P Q` reads nothing, and writes the summary of the run of so many stated jobs of a seed, within
 ///   the ratio P/Q.
 /// - `bait P Q N` reads nothing, and writes what the run of the baiting jobs comes to, and what another schedule of
@@ -59,12 +59,12 @@ use std::sync::ledger::Ledger;
 ///   beyond what was settled where it was paused. `resume pause` does the same, but where the input ends it does what
 ///   `pause` does.
 /// - `unroll UNTIL` reads periodic tasks, and writes the feed of all jobs that they release before this tick.
-/// - `sure` reads periodic tasks, and writes of each whether a job of it can be lost, however the jobs of all tasks
-///   come, and if so which value would rule it out.
+/// - `sure` reads periodic tasks, and writes of each whether it passes a test by which no job of it is lost, however the
+///   jobs of all tasks come, and if not the least value that would pass it, if one would.
 /// - `budget C` reads periodic tasks, and writes them again with each work made a budget that pays for changes of hands
 ///   of at most C ticks.
-/// - `ratio` reads a feed or periodic tasks, whatever ratio they declare, and writes the least one within the limits
-///   that all jobs keep, the two jobs that set it, and the bound by it.
+/// - `ratio` reads a feed or periodic tasks, whatever ratio within the limits they declare, and writes the least one
+///   within them that all jobs keep, the two jobs that set it, and the bound by it.
 ///
 /// The statuses: `Done` where the feed ended without a fault and its whole trace was written, where the text was
 /// accepted, the run was told, or the question answered, where the feed that was asked for was written, for lanes where
@@ -91,13 +91,14 @@ pub fn dover<P: Port, L: Ledger>(
     // Whatever the port tells, it is a status with which what these words ask for may end.
     ensures ends { (request : Request) → Asks words.now request → CanEnd (Says request) result }
 
-    // How many comparisons a call makes, at every status: for n jobs at most 80 * (n + 1) * d, where n + 1 has at most
-    // d binary digits; serve, pause and the questions for the jobs that were admitted, none before a ratio line, and
-    // compare twice as many, since it serves them twice; judge and report for the whole lines that name a job, and
-    // report tasks for those behind the task text; resume and resume pause for the jobs of the snapshot and those
-    // admitted behind it together, and before its last line for those of its lines so far. lanes makes as many for each
-    // lane as serving its feed alone may. unroll makes at most d * (t + 4 * n) for t tasks that release n jobs, where
-    // t + 1 has at most d binary digits. feasible, sure, budget, ratio and report any make none.
+    // How many comparisons a call makes in the server's heaps, and unroll in its own, at every status: for n jobs at
+    // most 80 * (n + 1) * d, where n + 1 has at most d binary digits; serve, pause and the questions for the jobs that
+    // were admitted, none before a ratio line, and compare twice as many, since it serves them twice; judge and report
+    // for the whole lines that name a job, and report tasks for those behind the task text; resume and resume pause for
+    // the jobs of the snapshot and those admitted behind it together, and before its last line for those of its lines
+    // so far. lanes makes as many for each lane as serving its feed alone may. unroll makes at most d * (t + 4 * n) for
+    // t tasks that release n jobs, where t + 1 has at most d binary digits. feasible, sure, budget, ratio and report
+    // any make none.
     ensures comparisons { (request : Request) → Asks words.now request →
         Since (P.moves port.old) (P.moves port.new) (IsFrugal request comparisons.old comparisons.new) }
     // trial at Done, where the words alone tell how many jobs there are; bait, duel and draw make none.

@@ -21,7 +21,7 @@ pub const USAGE: &str = r"usage: dover WORD.. [< INPUT]
   report any timeline FROM UNTIL  the same, of the ticks from FROM on and before UNTIL
   report any svg         a schedule of any policy in, a picture of it as SVG out
   report any svg FROM UNTIL  the same, of the ticks from FROM on and before UNTIL
-  report tasks           periodic tasks and a trace behind them in, what became of the jobs of each task out
+  report tasks           periodic tasks and a trace behind them in, what became of the jobs with each task's numbers out
   report tasks timeline  the same in, a picture of the run for a terminal, each task below its name, out
   report tasks timeline FROM UNTIL  the same, of the ticks from FROM on and before UNTIL
   report tasks svg       the same in, a picture of the run as SVG, each task in lanes of its own, out
@@ -35,7 +35,7 @@ pub const USAGE: &str = r"usage: dover WORD.. [< INPUT]
   resume                 a snapshot and the feed's further lines in, the rest of its trace out
   resume pause           the same, but where the input ends early, a snapshot again
   unroll UNTIL           periodic tasks in, the feed of all jobs that they release before tick UNTIL out
-  sure                   periodic tasks in, of each whether a job of it can be lost, however all jobs come, out
+  sure                   periodic tasks in, of each whether it passes a test by which no job of it is lost, out
   budget C               periodic tasks in, the same with works that pay for changes of hands of at most C ticks out
   ratio                  a feed or periodic tasks in, the least k that all of them keep, and its bound, out
   trial SEED COUNT P Q   the summary of the run of COUNT made-up jobs, for k = P/Q

@@ -6,3 +6,6 @@ pub mod RunEnds
 pub mod RanFor
 pub mod Honest
 pub mod Underload
+pub mod OneProcessor
+pub mod Sure
+pub mod Once

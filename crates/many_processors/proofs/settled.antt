@@ -3,3 +3,5 @@ pub mod Later
 pub mod Settling
 pub mod Prefixes
 pub mod Onlines
+pub mod Finishes
+pub mod AtMark

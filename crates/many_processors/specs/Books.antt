@@ -1,24 +1,18 @@
 -- The books of a run of several processors: what is known of its intervals, of the ticks that it gives, and of the jobs
 -- that are over.
 use Rattle.std.specs.Prelude.{◌≡◌, ℕ, zero, suc, ◌+◌, ◌*◌, ◌≤◌, ◌<◌, ◌⊎◌, List, [], ◌∷◌, length, Bool, ◌&&◌, nat_le}
-use Rattle.std.specs.Prelude.{nat_lt, not, ◌==◌, ◌++◌, ◌-◌, max, Option, Some, None}
+use Rattle.std.specs.Prelude.{nat_lt, not, ◌==◌, ◌++◌, ◌-◌}
 use Rattle.std.specs.List.{count_by, sum_by}
 use Rattle.dover_model.specs.Fraction.{Fraction}
-use Rattle.dover_model.specs.declared.factors.Factor.{Factor}
 use Rattle.dover_model.specs.JobFacts.{JobFacts}
 use Rattle.dover_model.specs.Orders.{is_heavy}
 use Rattle.dover_model.specs.Sound.{IsMember, Each}
-use Rattle.dover_model.specs.Books.{Job, job_value, IsDense}
+use Rattle.dover_model.specs.Books.{Job, job_value, IsDense, IsPaid}
+use Rattle.many_processors.specs.Schedules.{ticks_given}
 
--- d, and e once more, are paid by z: with the ratio k = p/q, k·d + e is at most √k times z, or with the factor β =
--- b/c at most the greater of 1 and k/(β-1) times it
-abbrev pub IsPaidTwiceBy : Fraction → Option Factor → ℕ → ℕ → ℕ → Type 0
-IsPaidTwiceBy k None d e z = (k.p * d + k.q * e) * (k.p * d + k.q * e) ≤ k.p * k.q * z * z
-IsPaidTwiceBy k (Some f) d e z = (f.b - f.c) * (k.p * d + k.q * e) ≤ max (k.q * (f.b - f.c)) (k.p * f.c) * z
-
--- by what the ratio says
+-- d, and e besides, are paid by z: e is at most z, and what z is more pays for d
 abbrev pub IsPaidTwice : Fraction → ℕ → ℕ → ℕ → Type 0
-IsPaidTwice k d e z = IsPaidTwiceBy k k.factor d e z
+IsPaidTwice k d e z = (e ≤ z) × IsPaid k d (z - e)
 
 -- an interval of a processor, in which jobs run on it or are held on it
 pub record Interval : Type 0 where
@@ -73,7 +67,7 @@ IsBusyIn processors ran jobs τ = (processors ≤ length (given_at ran τ))
 pub record TakenIn (v w : ℕ) (o : Over) : Type 0 where
   pub at_most_work : o.had ≤ o.job.work
   pub reach : o.job.deadline + o.had ≤ o.at + o.job.work  -- it had no laxity when it took
-  pub had_paid : v * o.had ≤ w * o.job.value
+  pub work_paid : v * o.job.work ≤ w * o.job.value
 
 -- the interval lasts when the job is abandoned, and the job isn't heavy against what it completes
 abbrev pub is_light_in : Fraction → Over → Interval → Bool
@@ -118,4 +112,5 @@ pub record AreBooks (k : Fraction) (v w : ℕ) (processors : ℕ) (jobs : List J
   pub ticks_paid : v * sum_by length ran ≤ w * (sum_by (λ i. i.regular) intervals + sum_by (λ i. i.displaced) intervals
       + spare) + v * sum_by (λ o. o.had) taken
   pub taken_are : Each (TakenIn v w) taken
+  pub taken_had : Each (λ o. o.had ≤ ticks_given ran o.number o.job) taken
   pub gone_are : Each (GoneIn k v w processors intervals) gone

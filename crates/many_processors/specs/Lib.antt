@@ -7,4 +7,8 @@ pub mod Sound
 pub mod Ticks
 pub mod Observed
 pub mod Settled
+pub mod Finishes
 pub mod Online
+pub mod MoreProcessors
+pub mod Lanes
+pub mod Sure

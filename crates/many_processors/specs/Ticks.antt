@@ -7,6 +7,7 @@ use Rattle.dover_model.specs.Sound.{IsMember}
 use Rattle.dover_model.specs.Step as single
 use Rattle.dover_model.specs.JobFacts.{JobFacts}
 use Rattle.dover_model.specs.Underload as underload
+use Rattle.dover_model.specs.Processor as processor
 use Rattle.many_processors.specs.State.{Placed, State}
 use Rattle.many_processors.specs.Step.{Move, Prints, Waits, Ticks}
 
@@ -23,6 +24,12 @@ abbrev pub takes_or_abandons : Move → Bool
 takes_or_abandons (Prints q e) = underload.takes_or_abandons (single.Prints e)
 takes_or_abandons (Waits n) = false
 takes_or_abandons Ticks = false
+
+-- job n preempts
+abbrev pub is_preempt_of : ℕ → Move → Bool
+is_preempt_of n (Prints q e) = processor.is_preempt_of n (single.Prints e)
+is_preempt_of n (Waits other) = false
+is_preempt_of n Ticks = false
 
 -- the tick is in the job's window
 abbrev pub crosses : ℕ → JobFacts → Bool

@@ -1,16 +1,18 @@
 //! Laws of a run on several processors, each a clause of a function that does nothing.
-ghost use Rattle.std.specs.Prelude.{◌≡◌, ℕ, ◌≤◌, ◌<◌, ◌+◌, ◌*◌, ◌⊎◌, length, [], true, false};
-ghost use Rattle.std.specs.List.{sum_by};
+ghost use Rattle.std.specs.Prelude.{◌≡◌, ℕ, ◌≤◌, ◌<◌, ◌+◌, ◌*◌, ◌⊎◌, length, map, [], true, false};
+ghost use Rattle.std.specs.List.{sum_by, count_by};
 ghost use Rattle.dover_model.specs.declared.events.Role.TheVariants.{Fresh, Waiting, Held, Done};
 ghost use Rattle.dover_model.specs.Common.{Instance, IsValid, IsMember, Each, numbered, is_due, left};
 ghost use Rattle.dover_model.specs.JobFacts.{JobFacts};
+ghost use Rattle.dover_model.specs.Run as one_run;
 ghost use Rattle.many_processors.specs.State.{State, opening};
 ghost use Rattle.many_processors.specs.Step.{Ticks, step, after};
 ghost use Rattle.many_processors.specs.Sound.{Keeps};
-ghost use Rattle.many_processors.specs.Run.{run, ran, printed, completed_value, HasEnd};
+ghost use Rattle.many_processors.specs.Run.{run, ran, printed, printed_on, completed_value, HasEnd};
 ghost use Rattle.many_processors.specs.Schedules.{IsFor, is_named, worth};
 ghost use Rattle.many_processors.specs.Books.{given_at};
 ghost use Rattle.many_processors.specs.Ticks.{SomeRunsOn, AreDifferent, FewAtOnce, takes_or_abandons};
+ghost use Rattle.many_processors.specs.Ticks.{is_preempt_of};
 ghost use Rattle.many_processors.specs.Observed.{observed, end_state};
 
 /// - `sound_opening`, `sound_steps`: the opening is sound as each processor sees it, and each step of a valid instance
@@ -18,6 +20,7 @@ ghost use Rattle.many_processors.specs.Observed.{observed, end_state};
 ///   two jobs.
 /// - `ends`: a run comes to its end, within a tick each up to the last deadline and five steps for each job.
 /// - `few_steps`: at most five steps for each job are printed, and End.
+/// - `preempts_once`: over a run a job preempts once at most.
 /// - `few_at_once`: each tick of a run is given to at most as many jobs as there are processors.
 /// - `no_job_twice`: no tick is given to a job twice, so none runs on two processors at once.
 /// - `in_window`: each tick that a job has is one of its window, from its release to its deadline.
@@ -25,6 +28,7 @@ ghost use Rattle.many_processors.specs.Observed.{observed, end_state};
 /// - `none_holds`: in each tick in which a job is held, a job runs on its processor.
 /// - `none_lost`, `all_value`: where no tick is in the windows of more jobs than there are processors, none is taken
 ///   late or abandoned, and the run has the value of all.
+/// - `one_processor`: with one processor a run prints, on processor 0, what it prints by the rules of one processor.
 /// - `honest`: the value that a run ends with is what its own schedule is worth, by the works as the run observed them.
 /// - `done`: a job that is completed had all its work, or had come to a finish of its own.
 /// - `as_declared`: where no job finishes early, the works that the run observed are the declared ones.
@@ -35,6 +39,8 @@ pub fn laws_of_runs()
     ensures ends { (processors : ℕ) (J : Instance) → 1 ≤ processors → IsValid J → HasEnd (run processors J) }
     ensures few_steps { (processors : ℕ) (J : Instance) → 1 ≤ processors → IsValid J
         → length (printed processors J) ≤ 5 * length J.jobs + 1 }
+    ensures preempts_once { (processors : ℕ) (J : Instance) (n : ℕ) → 1 ≤ processors → IsValid J
+        → count_by (λ x. is_preempt_of n x.move) (run processors J) ≤ 1 }
     ensures few_at_once { (processors : ℕ) (J : Instance) → 1 ≤ processors → IsValid J
         → IsFor processors (ran processors J) }
     ensures no_job_twice { (processors : ℕ) (J : Instance) → 1 ≤ processors → IsValid J
@@ -52,6 +58,7 @@ pub fn laws_of_runs()
         → Each (λ x. takes_or_abandons x.move ≡ false) (run processors J) }
     ensures all_value { (processors : ℕ) (J : Instance) → 1 ≤ processors → IsValid J → FewAtOnce processors J
         → completed_value processors J ≡ sum_by (λ j. j.value) J.jobs }
+    ensures one_processor { (J : Instance) → IsValid J → printed_on 1 J ≡ map (λ e. (0, e)) (one_run.printed J) }
     ensures honest { (processors : ℕ) (J : Instance) → 1 ≤ processors → IsValid J
         → worth (numbered (observed processors J)) (ran processors J) ≡ completed_value processors J }
     ensures done { (processors : ℕ) (J : Instance) → 1 ≤ processors → IsValid J

@@ -1,13 +1,19 @@
 //! Laws of what is settled on several processors, each a clause of a function that does nothing.
-ghost use Rattle.std.specs.Prelude.{◌≡◌, ◌≤◌, ◌<◌, ℕ, List, true};
+ghost use Rattle.std.specs.Prelude.{◌≡◌, ◌≤◌, ◌<◌, ℕ, List, [], ◌∷◌, true};
 ghost use Rattle.dover_model.specs.declared.events.Role.TheVariants.{Fresh};
-ghost use Rattle.dover_model.specs.Common.{Rules, Instance, IsValid, with_jobs, JobFacts, Begins, Each, known_at};
+ghost use Rattle.dover_model.specs.Common.{Rules, Instance, IsValid, with_jobs, with_finishes, JobFacts, Finish};
+ghost use Rattle.dover_model.specs.Common.{Begins};
+ghost use Rattle.dover_model.specs.Common.{Each, HaveTheSame, finish_now, known_at};
+ghost use Rattle.dover_model.specs.Instance as instances;
 ghost use Rattle.many_processors.specs.State.{Placed, State, opening};
-ghost use Rattle.many_processors.specs.Step.{open_step, after};
+ghost use Rattle.dover_model.specs.declared.events.Event.TheVariants.{Complete};
+ghost use Rattle.many_processors.specs.Step.{Prints, open_step, after};
 ghost use Rattle.many_processors.specs.Sound.{Keeps};
 ghost use Rattle.many_processors.specs.Run.{printed_on};
 ghost use Rattle.many_processors.specs.Settled.{waits_for_mark, with_later, AllComeFrom, settled_steps, settled};
 ghost use Rattle.many_processors.specs.Settled.{settled_state, IsBarrier, IsSettledRun};
+ghost use Rattle.many_processors.specs.Finishes.{IsDueAlike, AreDueAlike, NoneIsDue, AreYetToCome, CompleteOne};
+ghost use Rattle.many_processors.specs.Finishes.{RunsAtMark};
 ghost use Rattle.many_processors.specs.Online.{printed_up_to};
 
 /// - `same_step`: a settled step is the same, whatever comes at the mark or later.
@@ -18,6 +24,15 @@ ghost use Rattle.many_processors.specs.Online.{printed_up_to};
 /// - `while_open`, `at_the_end`: jobs that are released at the mark or later change nothing of what is settled: it
 ///   begins what is settled at a later mark, and what the run prints.
 /// - `on_line`: what is printed up to a tick depends on the jobs that are released by then alone.
+/// - `further_while_open`, `further_at_the_end`: where no running job has come to one of some further finishes by what
+///   is settled, that begins what is settled at a later mark with them, and what the run prints with them.
+/// - `yet_to_come`, `yet_to_come_state`: where none has come to one at the mark either, the same is settled with them.
+/// - `due_alike`, `due_alike_state`: other finishes, or the same ones in another order, of which up to the mark the
+///   first that is due completes the same job at every step, settle the same.
+/// - `another_order`: in a state in which all finishes that are due complete the same job, their order is nothing, nor
+///   how often one stands.
+/// - `finish_at_mark_stays`, `finish_at_mark_next`: a job that runs at the mark, where all that is settled was taken
+///   before its tick, may finish there: what is settled stays, and its completion is next, on its processor.
 pub fn laws_of_settled_steps()
     ensures same_step { (processors : ℕ) (rules : Rules) (s : State) (more : List Placed) (mark : ℕ)
         → AllComeFrom mark more → (waits_for_mark (open_step processors rules s) ≡ true → s.clock < mark)
@@ -43,4 +58,32 @@ pub fn laws_of_settled_steps()
     ensures on_line { (processors t : ℕ) (J K : Instance) → 1 ≤ processors → IsValid J → IsValid K
         → J.rules ≡ K.rules → known_at t J.jobs ≡ known_at t K.jobs
         → printed_up_to processors t J ≡ printed_up_to processors t K }
+    ensures further_while_open { (processors : ℕ) (J : Instance) (more : List Finish) (mark mark2 : ℕ) → 1 ≤ processors
+        → IsValid J → mark ≤ mark2
+        → Each (λ x. NoneIsDue processors J.rules.version more x.before) (settled_steps processors J mark)
+        → Begins (settled_steps processors J mark) (settled_steps processors (with_finishes J more) mark2) }
+    ensures further_at_the_end { (processors : ℕ) (J : Instance) (more : List Finish) (mark : ℕ) → 1 ≤ processors
+        → IsValid J → Each (λ x. NoneIsDue processors J.rules.version more x.before) (settled_steps processors J mark)
+        → Begins (settled processors J mark) (printed_on processors (with_finishes J more)) }
+    ensures yet_to_come { (processors : ℕ) (J : Instance) (more : List Finish) (mark : ℕ) → 1 ≤ processors → IsValid J
+        → AreYetToCome processors J mark more
+        → settled_steps processors (with_finishes J more) mark ≡ settled_steps processors J mark }
+    ensures yet_to_come_state { (processors : ℕ) (J : Instance) (more : List Finish) (mark : ℕ) → 1 ≤ processors
+        → IsValid J → AreYetToCome processors J mark more
+        → settled_state processors (with_finishes J more) mark ≡ settled_state processors J mark }
+    ensures due_alike { (processors : ℕ) (J : Instance) (finishes : List Finish) (mark : ℕ) → 1 ≤ processors → IsValid J
+        → AreDueAlike processors J mark finishes
+        → settled_steps processors (instances.finishing J finishes) mark ≡ settled_steps processors J mark }
+    ensures due_alike_state { (processors : ℕ) (J : Instance) (finishes : List Finish) (mark : ℕ) → 1 ≤ processors
+        → IsValid J → AreDueAlike processors J mark finishes
+        → settled_state processors (instances.finishing J finishes) mark ≡ settled_state processors J mark }
+    ensures another_order { (processors : ℕ) (J : Instance) (finishes : List Finish) (s : State)
+        → HaveTheSame J.rules.finishes finishes → CompleteOne processors J.rules.version J.rules.finishes s
+        → IsDueAlike processors J finishes s }
+    ensures finish_at_mark_stays { (processors : ℕ) (J : Instance) (mark : ℕ) (p : Placed) → 1 ≤ processors → IsValid J
+        → RunsAtMark processors J mark p → Begins (settled_steps processors J mark)
+        (settled_steps processors (with_finishes J (finish_now p.task ∷ [])) mark) }
+    ensures finish_at_mark_next { (processors : ℕ) (J : Instance) (mark : ℕ) (p : Placed) → 1 ≤ processors → IsValid J
+        → RunsAtMark processors J mark p → open_step processors (with_finishes J (finish_now p.task ∷ [])).rules
+        (settled_state processors J mark) ≡ Prints p.owner (Complete mark p.task.number) }
 {}

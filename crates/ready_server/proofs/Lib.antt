@@ -11,5 +11,6 @@ pub mod RollMoves
 pub mod RollRuns
 pub mod Present
 pub mod RollSettled
+pub mod RollFinishes
 pub mod Rostered
 pub mod SameFinishes

@@ -26,9 +26,11 @@ use Rattle.dover_model.proofs.steps.Roles.{one_number, numbered_map, passes, is_
 use Rattle.dover_model.proofs.lists.Tests.{never}
 use Rattle.dover_model.proofs.steps.RoleChanges.{with_role_at, all_displaced, displaced_same, task_at}
 use Rattle.ready_server.specs.Roster.{Roll, ListedJob, had_with, stopped, released, job_at, with_stop}
-use Rattle.ready_server.specs.Roster.{is_turn, halted, started, with_event, empty_roll, roll_of}
+use Rattle.ready_server.specs.Roster.{is_turn, halted, started, with_event, empty_roll, roll_of, with_finish}
+use Rattle.ready_server.specs.Roster.{finish_here}
 use Rattle.ready_server.proofs.Rolls.{calm_role, Lists, Follows, set_here, set_there, length_set, get_front, get_last}
-use Rattle.ready_server.proofs.Rolls.{follows_pressing, at_clock, number_is, job_is, had_ran, had_is, lists_as}
+use Rattle.ready_server.proofs.Rolls.{follows_finish, follows_pressing, at_clock, number_is, job_is, had_ran, had_is}
+use Rattle.ready_server.proofs.Rolls.{lists_as}
 use Rattle.ready_server.proofs.Rolls.{lists_other, lists_same}
 use Rattle.ready_server.proofs.RollMoves.{no_turn, idle_turn, halts, starts, displaces}
 
@@ -251,8 +253,10 @@ module _ (s : State) (sound : IsSound s) (p : Roll) (follows : Follows s p) wher
       → Follows (after s (Prints (Complete s.clock r.number))) (with_event p (Complete s.clock r.number))
   completes r member runs =
       let there : State = at_clock s (with_role_at r.number Done s.tasks) in
-      follows_pressing (s.pressed && list_any is_open_job there.tasks) there (halted p s.clock Done)
-      (halts s sound p follows r member runs Done (λ e. cc) (λ e. cc) refl)
+      follows_pressing (s.pressed && list_any is_open_job there.tasks) there
+      (with_finish (halted p s.clock Done) (finish_here p s.clock))
+      (follows_finish there (halted p s.clock Done) (finish_here p s.clock)
+      (halts s sound p follows r member runs Done (λ e. cc) (λ e. cc) refl))
 
   -- one starts where none runs
   runs_on : (g : Task) → IsMember g s.tasks → (g.role ≡ Coming → ⊥) → NoneRuns s.tasks
@@ -333,7 +337,7 @@ module _ (s : State) (sound : IsSound s) (p : Roll) (follows : Follows s p) wher
           out false role is e = let no : displaced role ≡ Waiting = ap displaced is in cc
 
   -- the roll follows each deed
-  deed_next : (k : Fraction) (m : Move) → Deed k s Ticks m → Follows (after s m) (roll_after p m)
+  pub deed_next : (k : Fraction) (m : Move) → Deed k s Ticks m → Follows (after s m) (roll_after p m)
   deed_next k m (Completed r member runs) = completes r member runs
   deed_next k m (Resumed q member holds none least why) =
       runs_on q member (not_coming q Held holds (λ e. cc)) none
@@ -366,7 +370,7 @@ module _ (J : Instance) (valid : IsValid J) (mark : ℕ) where
         by_move (Waits n) = refl
         by_move Ticks = refl
 
-  opening_follows : Follows (opening J.jobs) empty_roll
+  pub opening_follows : Follows (opening J.jobs) empty_roll
   opening_follows = record {
     since = omega arith;
     turn = λ n e. absurd (let no : None ≡ Some n = e in cc);

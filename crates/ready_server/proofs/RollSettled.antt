@@ -26,7 +26,8 @@ use Rattle.dover_model.proofs.valid.Limiting.{jobs_most}
 use Rattle.ready_server.specs.Serving as ready
 use Rattle.ready_server.specs.declared.server.ReadyServer.{ReadyServer}
 use Rattle.ready_server.specs.Roster.{Roll, ListedJob, stopped, released, job_at, with_event, empty_roll, roll_of}
-use Rattle.ready_server.specs.Roster.{with_stop, halted}
+use Rattle.ready_server.specs.Roster.{with_stop, halted, with_finish, finish_here}
+use Rattle.ready_server.specs.declared.roster.ListedFinish.{ListedFinish}
 use Rattle.ready_server.proofs.Present.{none_to_come}
 use Rattle.ready_server.proofs.Rolls.{calm, calm_role, length_set, Follows}
 use Rattle.ready_server.proofs.RollRuns.{numbered_task, roll_follows}
@@ -130,11 +131,17 @@ halt_takes p at role = by p.turn where
   by None = refl
   by (Some n) = stop_takes p n (at - p.since) role
 
+-- so a finish is
+finish_takes : (q : Roll) (o : Option ListedFinish) → (with_finish q o).takes ≡ q.takes
+finish_takes q None = refl
+finish_takes q (Some f) = refl
+
 -- each step is at most one
 one_take : (p : Roll) (e : Event) → (with_event p e).takes ≤ suc p.takes
 one_take p (Preempt at stops starts) = omega (arith, halt_takes p at Held)
 one_take p (Take at stops starts) = omega (arith, halt_takes p at Waiting)
-one_take p (Complete at n) = omega (arith, halt_takes p at Done)
+one_take p (Complete at n) =
+    omega (arith, finish_takes (halted p at Done) (finish_here p at), halt_takes p at Done)
 one_take p (Abandon at n) = omega (arith, stop_takes p n 0 Gone)
 one_take p _ = omega arith
 
@@ -143,7 +150,7 @@ takes_from [] p = omega arith
 takes_from (e ∷ events) p = omega (arith, takes_from events (with_event p e), one_take p e)
 
 -- a stop leaves as many jobs
-stop_count : (p : Roll) (n ticks : ℕ) (role : Role) → length (with_stop p n ticks role).jobs ≡ length p.jobs
+pub stop_count : (p : Roll) (n ticks : ℕ) (role : Role) → length (with_stop p n ticks role).jobs ≡ length p.jobs
 stop_count p n ticks role = by (slice_get p.jobs n) where
   by : (o : Option ListedJob) → (let q : Roll = elim o
       [ None ↦ p | Some e ↦ record p { jobs = set p.jobs n (stopped ticks role p.takes e) } ] in length q.jobs)
@@ -151,7 +158,7 @@ stop_count p n ticks role = by (slice_get p.jobs n) where
   by None = refl
   by (Some x) = length_set p.jobs n (stopped ticks role p.takes x)
 
-halt_count : (p : Roll) (at : ℕ) (role : Role) → length (halted p at role).jobs ≡ length p.jobs
+pub halt_count : (p : Roll) (at : ℕ) (role : Role) → length (halted p at role).jobs ≡ length p.jobs
 halt_count p at role = by p.turn where
   by : (o : Option ℕ) → (let q : Roll = elim o
       [ None ↦ p | Some n ↦ record (with_stop p n (at - p.since) role) { turn = None } ] in length q.jobs)
@@ -159,13 +166,19 @@ halt_count p at role = by p.turn where
   by None = refl
   by (Some n) = stop_count p n (at - p.since) role
 
+-- and a finish
+pub finish_count : (q : Roll) (o : Option ListedFinish) → length (with_finish q o).jobs ≡ length q.jobs
+finish_count q None = refl
+finish_count q (Some f) = refl
+
 -- so does each step that isn't a release
 pub same_count : (p : Roll) (e : Event) → ((n : ℕ) (job : JobFacts) → e ≡ Release n job → ⊥)
     → length (with_event p e).jobs ≡ length p.jobs
 same_count p (Release n job) other = absurd (other n job refl)
 same_count p (Preempt at stops starts) other = halt_count p at Held
 same_count p (Take at stops starts) other = halt_count p at Waiting
-same_count p (Complete at n) other = halt_count p at Done
+same_count p (Complete at n) other =
+    finish_count (halted p at Done) (finish_here p at) ∙ halt_count p at Done
 same_count p (Abandon at n) other = stop_count p n 0 Gone
 same_count p _ other = refl
 
@@ -217,7 +230,7 @@ all_here z p numbered follows came = by_test (nat_lt (length p.jobs) (length z.t
       absurd (omega (arith, slice_get_within p.jobs t.0.number it.listed it.there, t.2))
 
 -- as many jobs as the instance
-tasks_count : (J : Instance) (z : State) → Keeps J z → length z.tasks ≡ length J.jobs
+pub tasks_count : (J : Instance) (z : State) → Keeps J z → length z.tasks ≡ length J.jobs
 tasks_count J z keeps = omega (arith, count_jobs z.tasks, ap length keeps.jobs)
 
 -- no release comes by a step

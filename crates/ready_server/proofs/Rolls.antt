@@ -6,7 +6,8 @@ use Rattle.dover_model.specs.declared.events.Role.TheVariants.{Coming, Fresh, Wa
 use Rattle.dover_model.specs.declared.events.Task.{Task}
 use Rattle.dover_model.specs.Common.{JobFacts, IsMember, Each, State, with_role}
 use Rattle.dover_model.proofs.steps.Pressing.{pressing}
-use Rattle.ready_server.specs.Roster.{Roll, ListedJob, had_with, is_turn, is_displaced, job_at}
+use Rattle.ready_server.specs.Roster.{Roll, ListedJob, had_with, is_turn, is_displaced, job_at, with_finish}
+use Rattle.ready_server.specs.declared.roster.ListedFinish.{ListedFinish}
 
 -- the role of a job in a roll: what is fresh there waits
 abbrev pub calm_role : Role → Role
@@ -44,6 +45,22 @@ follows_pressing b s p it = record {
   turn = it.turn;
   runs = it.runs;
   here = it.here;
+  ahead = it.ahead;
+  few = it.few;
+}
+
+-- it follows it whatever finishes it has
+lists_finish : (q : Roll) (f : ListedFinish) (clock : ℕ) (t : Task) → Lists q clock t
+    → Lists (with_finish q (Some f)) clock t
+lists_finish q f clock t it = record { listed = it.listed; there = it.there; is = it.is; before = it.before }
+
+pub follows_finish : (s : State) (q : Roll) (o : Option ListedFinish) → Follows s q → Follows s (with_finish q o)
+follows_finish s q None it = it
+follows_finish s q (Some f) it = record {
+  since = it.since;
+  turn = it.turn;
+  runs = it.runs;
+  here = λ t m out. lists_finish q f s.clock t (it.here t m out);
   ahead = it.ahead;
   few = it.few;
 }

@@ -1,17 +1,19 @@
 -- What a roster beside a server has read after a step.
-use Rattle.std.proofs.Common.{◌≡◌, ◌<◌, ◌-◌, ◌^◌, ℕ, List, [], ◌∷◌, ◌++◌, length, sym, ap, ◌∙◌, subst, arith}
+use Rattle.std.proofs.Common.{◌≡◌, ◌<◌, ◌-◌, ◌^◌, ℕ, List, [], ◌∷◌, ◌++◌, length, ◌≤◌, IsSome, sym, ap, ◌∙◌, subst}
+use Rattle.std.proofs.Common.{arith}
 use Rattle.dover_model.specs.declared.events.Event.{Event}
-use Rattle.dover_model.specs.declared.events.Event.TheVariants.{Release}
+use Rattle.dover_model.specs.declared.events.Event.TheVariants.{Release, Complete}
 use Rattle.dover_model.specs.Common.{JobFacts, Instance, settled}
 use Rattle.dover_model.specs.declared.horizon.Horizon.{Horizon}
 use Rattle.dover_model.specs.declared.horizon.Horizon.TheVariants.{Mark}
 use Rattle.ready_jobs.proofs.Courses.{follows_count}
 use Rattle.ready_server.specs.Serving as ready
 use Rattle.ready_server.specs.declared.server.ReadyServer.{ReadyServer}
-use Rattle.ready_server.specs.Roster.{Roll, Kept, with_event, HasLine, IsRollOf}
+use Rattle.ready_server.specs.Roster.{Roll, Kept, with_event, roll_of, finish_here, HasLine, IsRollOf}
 use Rattle.ready_server.specs.Rostering.{Serves, Rests}
 use Rattle.ready_server.proofs.Stepping.{serves_begins, rests_serves}
 use Rattle.ready_server.proofs.RollSettled.{roll_more, takes_low, same_count}
+use Rattle.ready_server.proofs.RollFinishes.{finish_fits, few_finishes}
 
 -- one step more
 pub more_read : (k l : Kept) (events : List Event) (e : Event) → IsRollOf events k → l.roll ≡ with_event k.roll e
@@ -39,3 +41,18 @@ roster_rests s k J mark it = record { served = rests_serves s J (Mark mark) it.r
 pub served_jobs : (s : ReadyServer) (J : Instance) (to : Horizon) (events : List Event) → ready.Serves s J to events
     → s.ready.jobs ≡ length J.jobs
 served_jobs s J to events it = follows_count s.ready J it.state it.follows
+
+-- where there is room for the finish of each job, there is for the one that comes with the next step
+pub finish_room : (k : Kept) (s : ReadyServer) (J : Instance) (mark : ℕ) (events : List Event) → IsRollOf events k
+    → (e : Event) (at n : ℕ) → e ≡ Complete at n → ready.Serves s J (Mark mark) (events ++ e ∷ [])
+    → IsSome (finish_here k.roll at) → length J.jobs ≤ k.finish_room → length k.roll.finishes < k.finish_room
+finish_room k s J mark events read e at n is next some room = subst (λ (p : Roll). length p.finishes < k.finish_room)
+    (sym read) (omega (
+      arith,
+      room,
+      finish_fits (roll_of events) at n (length J.jobs)
+          (subst (λ (p : Roll). length p.finishes ≤ length J.jobs)
+          (roll_more events e ∙ ap (with_event (roll_of events)) is)
+          (few_finishes J next.follows.valid mark next.state (events ++ e ∷ []) next.given.1))
+          (subst (λ (p : Roll). IsSome (finish_here p at)) read some),
+    ))

@@ -1,35 +1,39 @@
 -- The jobs of a run by number, kept from its printed steps alone.
 use Rattle.std.specs.Prelude.{◌≡◌, ◌<◌, length, ℕ, suc, ◌-◌, List, [], ◌∷◌, ◌++◌, set, Bool, false, not}
 use Rattle.std.specs.Prelude.{◌&&◌, ◌==◌, if◌then◌else◌, Option, Some, None, slice_get, fold, option_and_then}
-use Rattle.std.specs.Prelude.{option_map}
+use Rattle.std.specs.Prelude.{nat_lt}
+use Rattle.std.specs.Bool.{then_some}
 use Rattle.dover_model.specs.declared.events.Event.{Event}
 use Rattle.dover_model.specs.declared.events.Event.TheVariants.{Release, Run, Preempt, Take, Complete, Abandon, End}
 use Rattle.dover_model.specs.declared.events.Role.{Role}
 use Rattle.dover_model.specs.declared.events.Role.TheVariants.{Waiting, Held, Running, Done, Gone}
 use Rattle.dover_model.specs.declared.events.Task.{Task}
 use Rattle.dover_model.specs.Common.{JobFacts, is_held}
+use Rattle.ready_server.specs.declared.roster.ListedFinish.{ListedFinish}
 
 -- a job as it was when it last had the processor, and how many takes there were when it stopped
 pub record ListedJob : Type 0 where
   pub task : Task
   pub takes : ℕ
 
--- the jobs by number, as they were when they last had the processor; how many takes there were; and of the job that
--- runs, the number and the tick at which it was as it is here
+-- the jobs by number, as they were when they last had the processor; the early finishes in order; how many takes there
+-- were; and of the job that runs, the number and the tick at which it was as it is here
 pub record Roll : Type 0 where
   pub jobs : List ListedJob
+  pub finishes : List ListedFinish
   pub takes : ℕ
   pub turn : Option ℕ
   pub since : ℕ
 
--- a roll for which there is room for so many jobs
+-- a roll for which there is room for so many jobs, and for so many early finishes
 pub record Kept : Type 0 where
   pub roll : Roll
   pub room : ℕ
+  pub finish_room : ℕ
 
 -- no job was released yet
 abbrev pub empty_roll : Roll
-empty_roll = record { jobs = []; takes = 0; turn = None; since = 0 }
+empty_roll = record { jobs = []; finishes = []; takes = 0; turn = None; since = 0 }
 
 -- ---- one job
 
@@ -66,10 +70,6 @@ job_at p clock e = record {
   had = if is_turn p.turn e.task.number then had_with (clock - p.since) e.task else e.task.had;
 }
 
--- the job that runs, as it is at a tick
-abbrev pub runner_at : Roll → ℕ → Option Task
-runner_at p clock = option_and_then (λ n. option_map (job_at p clock) (slice_get p.jobs n)) p.turn
-
 -- ---- what printed steps do to it
 
 -- the job of this number stops after so many ticks more, in this role
@@ -85,6 +85,20 @@ halted p at role = elim p.turn [ None ↦ p | Some n ↦ record (with_stop p n (
 abbrev pub started : Roll → (at n : ℕ) → Roll
 started p at n = record p { turn = Some n; since = at }
 
+-- the early finish of the job of this number, if it has work left after so many ticks more
+abbrev pub finish_of : Roll → (at n : ℕ) → ListedJob → Option ListedFinish
+finish_of p at n e = then_some (nat_lt (had_with (at - p.since) e.task) e.task.job.work)
+    (record { at = at; number = n; behind = length p.jobs })
+
+-- the early finish of the job that runs, if it is done at this tick with work left
+abbrev pub finish_here : Roll → ℕ → Option ListedFinish
+finish_here p at = option_and_then (λ n. option_and_then (finish_of p at n) (slice_get p.jobs n)) p.turn
+
+-- with this finish, if there is one
+abbrev pub with_finish : Roll → Option ListedFinish → Roll
+with_finish p None = p
+with_finish p (Some f) = record p { finishes = p.finishes ++ f ∷ [] }
+
 -- after a printed step
 abbrev pub with_event : Roll → Event → Roll
 with_event p (Release n job) = record p { jobs = p.jobs ++ released n job ∷ [] }
@@ -92,7 +106,7 @@ with_event p (Run at n) = started p at n
 with_event p (Preempt at stops starts) = started (halted p at Held) at starts
 with_event p (Take at stops starts) =
     let q = halted p at Waiting in started (record q { takes = suc q.takes }) at starts
-with_event p (Complete at n) = halted p at Done
+with_event p (Complete at n) = with_finish (halted p at Done) (finish_here p at)
 with_event p (Abandon at n) = with_stop p n 0 Gone
 with_event p (End value) = p
 

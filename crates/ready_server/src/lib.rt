@@ -7,7 +7,7 @@ pub mod server;
 mod source;
 mod watcher;
 
-pub use roster::Roster;
+pub use roster::{ListedFinish, Roster};
 pub use running::{finish_job, run_list, serve_jobs, show_to};
 pub use server::ReadyServer;
 pub use source::JobSource;

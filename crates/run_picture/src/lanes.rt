@@ -1,156 +1,124 @@
-//! The lanes of the jobs that the window shows.
-ghost use Rattle.std.specs.Prelude.{◌≡◌, ◌≤◌, ◌+◌, ◌∷◌, ◌^◌, length, OnOk, IfOk, []};
-ghost use Rattle.run_picture.specs.Lanes as places;
-
-use crate::plot::{Window, meets};
+//! The lanes of the jobs that a picture shows.
+use crate::scale::Scale;
 use crate::seen::Seen;
 use dover_model::Memory;
 use std::alloc::Global;
 
-/// How many jobs the window shows.
-pub fn shown(window: Window, seen: &[Seen]) -> usize
-    ensures { result ≡ places.shown window seen.now }
-{
-    let mut count = 0;
-    for one in seen {
-        if shows(window, one) {
-            count += 1;
+/// The jobs in their rows.
+#[derive(Drop)]
+pub struct Lanes {
+    /// The jobs, by number.
+    pub jobs: Vec<Seen>,
+    /// The first row of each group, and behind them how many rows there are.
+    tops: Vec<u64>,
+    /// How many pixels a row is high.
+    pub unit: u64,
+}
+
+/// How many jobs are shown.
+pub fn shown(scale: Scale, seen: &[Seen]) -> usize {
+    seen.iter().filter(|one| one.is_shown(scale)).count()
+}
+
+impl Lanes {
+    /// Puts the jobs that are shown into rows, those of so many groups one below the other.
+    pub fn new(
+        alloc: Global,
+        scale: Scale,
+        groups: usize,
+        mut jobs: Vec<Seen>,
+    ) -> Result<Lanes, Memory> {
+        let mut tops = Vec::new(alloc);
+        let mut first = 0u64;
+        for group in 0..groups {
+            tops.push(first)?;
+            first = first.saturating_add(lay_group(alloc, scale, group, first, &mut jobs)?);
+        }
+        tops.push(first)?;
+        Ok(Lanes {
+            jobs,
+            tops,
+            unit: unit_of(groups, first),
+        })
+    }
+
+    /// The height of all rows in pixels.
+    pub fn height(&self) -> u64 {
+        match self.tops.last() {
+            Some(rows) => self.unit.saturating_mul(*rows),
+            None => 0,
         }
     }
-    count
-}
 
-/// The window shows the job.
-pub fn shows(window: Window, seen: &Seen) -> bool
-    ensures { result ≡ places.shows window seen.now }
-{
-    meets(window, seen.release, seen.deadline)
-}
-
-/// Puts the jobs of so many groups into their rows, each group below the one before, and tells the first row of each,
-/// and behind them how many rows there are.
-pub fn lay(
-    alloc: Global,
-    window: Window,
-    groups: usize,
-    lanes: &mut [Seen],
-) -> Result<Vec<u32>, Memory>
-    requires groups { groups ≤ 400 }
-    requires jobs { length lanes.old ≤ 5_000_001 }
-    ensures lanes { OnOk result (lanes.new ≡ places.laid_from window 0 0 groups lanes.old) }
-    ensures tops { IfOk result (λ tops. tops.items ≡ places.tops_from window 0 0 groups lanes.old) }
-    ensures all { IfOk result (λ tops. length tops.items ≡ groups + 1) }
-{
-    let mut tops = Vec::new(alloc);
-    let mut first = 0;
-    for group in 0..groups {
-        tops.push(first)?;
-        first += lay_group(alloc, window, group, first, lanes)?;
+    /// The upper pixel of the first row of a group.
+    pub fn top(&self, group: usize) -> u64 {
+        match self.tops.get(group) {
+            Some(row) => self.unit.saturating_mul(*row).saturating_add(112),
+            None => 112,
+        }
     }
-    tops.push(first)?;
-    Ok(tops)
+
+    /// The middle of a job's row.
+    pub fn middle(&self, job: &Seen) -> u64 {
+        self.unit
+            .saturating_mul(job.row)
+            .saturating_add(112 + self.unit / 2)
+    }
+
+    /// The job of this number.
+    pub fn job(&self, number: u32) -> Option<Seen> {
+        self.jobs.get(number as usize).copied()
+    }
 }
 
-/// Puts the jobs of a group into their rows from this one on, and tells how many rows these are.
+/// Puts the jobs of a group that are shown into their rows from this one on, each into the first that is free, and
+/// tells how many rows these are, at least one.
 fn lay_group(
     alloc: Global,
-    window: Window,
+    scale: Scale,
     group: usize,
-    first: u32,
-    lanes: &mut [Seen],
-) -> Result<u32, Memory>
-    requires first { first ≤ 2_000_000_000 }
-    requires jobs { length lanes.old ≤ 5_000_001 }
-    ensures lanes { OnOk result (lanes.new ≡ places.laid window group first (0 ∷ []) lanes.old) }
-    ensures rows { IfOk result (λ rows. rows ≡ places.rows_of window group lanes.old) }
-    ensures few { IfOk result (λ rows. rows ≤ 5_000_002) }
-{
-    let mut dues = Vec::new(alloc);
-    dues.push(0)?;
-    for index in 0..lanes.len() {
-        let one = lanes[index];
-        lanes[index] = placed(&mut dues, window, group, first, &one)?;
+    first: u64,
+    jobs: &mut [Seen],
+) -> Result<u64, Memory> {
+    let mut frees = Vec::new(alloc);
+    frees.push(0)?;
+    for job in jobs.iter_mut() {
+        if job.group == group && job.is_shown(scale) {
+            let row = free_row(&frees, job.release);
+            keep_row(&mut frees, row, job.free_tick())?;
+            job.row = first.saturating_add(row as u64);
+        }
     }
-    Ok(dues.len() as u32)
-}
-
-/// The window shows the job, and it is of this group.
-fn is_in(window: Window, group: usize, one: &Seen) -> bool
-    ensures { result ≡ places.is_in window group one.now }
-{
-    shows(window, one) && one.group == group
-}
-
-/// A job, which is put into its row if it is of the group and the window shows it.
-fn placed(
-    dues: &mut Vec<u64>,
-    window: Window,
-    group: usize,
-    first: u32,
-    one: &Seen,
-) -> Result<Seen, Memory>
-    requires first { first ≤ 2_000_000_000 }
-    requires few { length dues.old.items ≤ 5_000_002 }
-    ensures job { IfOk result (λ job. job ≡ places.placed window group first dues.old.items one.now) }
-    ensures dues { OnOk result (dues.new.items ≡ places.dues_with window group dues.old.items one.now) }
-{
-    if !is_in(window, group, one) {
-        return Ok(*one);
-    }
-    let row = free_row(dues, one.release);
-    if row < dues.len() {
-        dues[row] = one.deadline;
-    } else {
-        dues.push(one.deadline)?;
-    }
-    Ok(Seen {
-        row: first + row as u32,
-        ..*one
-    })
+    Ok(frees.len() as u64)
 }
 
 /// The first row that is free at this tick, or one more.
-fn free_row(dues: &[u64], release: u64) -> usize
-    ensures is { result ≡ places.free_row dues.now release }
-    ensures within { result ≤ length dues.now }
-{
-    let mut row = 0;
-    while row < dues.len() && dues[row] > release {
-        row += 1;
+fn free_row(frees: &[u64], release: u64) -> usize {
+    for (row, free) in frees.iter().enumerate() {
+        if *free <= release {
+            return row;
+        }
     }
-    row
+    frees.len()
 }
 
-/// How many rows there are, by the first rows of the groups and what is behind them.
-pub fn height(tops: &[u32]) -> u64
-    ensures is { result ≡ places.height tops.now }
-    ensures modest { result ≤ 4_294_967_295 }
-{
-    match tops.last() {
-        Some(high) => u64::from(*high),
-        None => 0,
+/// A row is free from this tick on.
+fn keep_row(frees: &mut Vec<u64>, row: usize, free: u64) -> Result<(), Memory> {
+    if row < frees.len() {
+        frees[row] = free;
+        return Ok(());
     }
+    frees.push(free)?;
+    Ok(())
 }
 
 /// How many pixels a row is high, where there are so many.
-pub fn unit_of(groups: usize, high: u64) -> u64
-    ensures is { result ≡ places.unit_of groups high }
-    ensures modest { result ≤ 18 }
-{
-    if high <= 24 {
+fn unit_of(groups: usize, rows: u64) -> u64 {
+    if rows <= 24 {
         18
-    } else if high <= 48 || groups > 1 {
+    } else if rows <= 48 || groups > 1 {
         12
     } else {
         6
     }
-}
-
-/// The middle of the lane, where rows are so high.
-pub fn middle(unit: u64, lane: &Seen) -> u64
-    requires { unit ≤ 18 }
-    ensures is { result ≡ places.middle unit lane.now }
-    ensures modest { result ≤ 2 ^ 40 }
-{
-    112 + unit * u64::from(lane.row) + unit / 2
 }

@@ -1,7 +1,6 @@
 pub mod Filling
 pub mod Joining
 pub mod Stepping
-pub mod Viewed
 pub mod Numerators
 pub mod Telling
 pub mod WorkedRows

@@ -1,6 +1,4 @@
 pub mod Templates
-pub mod Moments
-pub mod Chrome
 pub mod Why
 pub mod Stays
 pub mod Book

@@ -9,11 +9,10 @@ mod lines;
 mod report;
 mod rows;
 
-pub use counts::{Counts, count, count_by, released, value_of};
+pub use counts::{Counts, count, count_by, released};
 pub use courses::{Course, courses_of};
-pub use early::{had_of, left_at, left_of};
+pub(crate) use early::left_at;
 pub use fates::{Fates, fates_of};
-pub(crate) use fates::{done_at, lost_at};
 pub use limits::is_listable;
 pub use report::{Findings, counts_text, summary, text};
 pub use rows::TableRows;

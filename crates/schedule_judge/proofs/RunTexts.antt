@@ -1,7 +1,7 @@
 -- The printed steps of a run, behind the first line of a schedule, are the text of a legal schedule.
 use Rattle.std.proofs.Common.{◌≡◌, ◌≢◌, ◌≤◌, ◌<◌, ◌+◌, ◌-◌, ◌⊎◌, inl, inr, ℕ, suc, List, ◌∷◌, ◌++◌, [], length, map}
 use Rattle.std.proofs.Common.{refl}
-use Rattle.std.proofs.Common.{sym, ap, ◌∙◌, subst, Bool, true, false, not, cond, Option, Some, None, MatchBool, arith}
+use Rattle.std.proofs.Common.{sym, ap, ◌∙◌, subst, Bool, true, false, not, cond, Some, None, MatchBool, arith}
 use Rattle.std.proofs.Common.{nat_le}
 use Rattle.std.proofs.Common.{◌==◌, eqb, get_or, slice_get, le-leb, le-ltb, eq-eqb, ne_eqb, sum_by, fold, codes}
 use Rattle.std.proofs.Common.{bytes_eq, nat_lt, ◌&&◌, append_assoc}
@@ -22,18 +22,18 @@ use Rattle.dover_model.specs.declared.events.Task.{Task}
 use Rattle.dover_model.specs.declared.events.Version.TheVariants.{Two}
 use Rattle.dover_model.specs.Instance.{IsListable}
 use Rattle.dover_model.specs.Trace as lines
-use Rattle.dover_model.specs.Common.{Instance, IsValid, State, opening, is_coming, is_running, is_over, is_done, left}
-use Rattle.dover_model.specs.Common.{latest_start, value_sum, Move, Prints, Waits, Ticks, step, after, ending}
+use Rattle.dover_model.specs.Common.{Instance, IsValid, State, opening, is_coming, is_over, is_done, left}
+use Rattle.dover_model.specs.Common.{value_sum, Move, Prints, Waits, Ticks, step, after, ending}
 use Rattle.dover_model.specs.Common.{◌or_else◌}
-use Rattle.dover_model.specs.Common.{with_role, Step, is_end, run, printed, printed_of, event_of, step_at, IsWholeRun}
+use Rattle.dover_model.specs.Common.{with_role, Step, is_end, run, printed, printed_of, event_of, IsWholeRun}
 use Rattle.dover_model.specs.Common.{IsMember, Each, NoneRuns, IsNumberedFrom, Keeps, text_of, step_numbers, fields_of}
 use Rattle.dover_model.specs.Common.{in_lines}
-use Rattle.dover_model.specs.Common.{lines_of, is_too_long, most_lines, most_jobs, to_come}
+use Rattle.dover_model.specs.Common.{lines_of, is_too_long, most_lines, most_jobs}
 use Rattle.dover_model.proofs.finishes.Needing.{AllServed, step_served, opening_served}
 use Rattle.dover_model.proofs.finishes.Readiness.{IsReady, step_ready, opening_ready}
 use Rattle.dover_model.proofs.lists.Members.{map_member, all_each, sum_filter}
 use Rattle.dover_model.proofs.lists.Tests.{never}
-use Rattle.dover_model.proofs.runs.Ending.{run_is_whole, end_over, due_by}
+use Rattle.dover_model.proofs.runs.Ending.{run_is_whole, due_by}
 use Rattle.dover_model.proofs.runs.Honest.{numbers_low, count_jobs}
 use Rattle.dover_model.proofs.steps.Deeds.{Deed, Completed, Resumed, Started, Began, Preempted, Stayed, Arrived, Taken}
 use Rattle.dover_model.proofs.steps.Deeds.{Abandoned, Rested}
@@ -49,7 +49,6 @@ use Rattle.line_text.specs.traces.Form.{HasForm}
 use Rattle.line_text.specs.traces.Reading.{line_of_fields}
 use Rattle.line_text.proofs.traces.Named.{HaveForm, printed_form}
 use Rattle.line_text.proofs.traces.Spelled.{text_read}
-use Rattle.schedule_judge.specs.declared.causes.Cause.{Cause}
 use Rattle.schedule_judge.specs.declared.causes.Cause.TheVariants as cause
 use Rattle.schedule_judge.specs.declared.intake.Standing.TheVariants as standing
 use Rattle.schedule_judge.specs.declared.jobs.JobState.TheVariants as state
@@ -58,14 +57,14 @@ use Rattle.schedule_judge.specs.Jobs.{nobody, settled, told_of, may_run, value_b
 use Rattle.schedule_judge.specs.Jobs as jobs
 use Rattle.schedule_judge.specs.Legal as legal
 use Rattle.schedule_judge.specs.Legal.{Schedule, unless, tick_cause, runs, is_idle, is_served, run_cause, switch_cause}
-use Rattle.schedule_judge.specs.Legal.{complete_cause, is_past, abandon_cause, end_cause, cause_of, jobs_stopped}
+use Rattle.schedule_judge.specs.Legal.{complete_cause, is_past, abandon_cause, cause_of}
 use Rattle.schedule_judge.specs.Legal.{stopped}
 use Rattle.schedule_judge.specs.Account.{Account, is_due_in_two, step_of_read, step_in, is_too_many, standing_after}
-use Rattle.schedule_judge.specs.Account.{no_lines, goes_on, next_line, account, with_step, standing_so, read_step}
+use Rattle.schedule_judge.specs.Account.{no_lines, goes_on, next_line, account, with_step, standing_so}
 use Rattle.schedule_judge.proofs.Accounts.{after_line}
-use Rattle.schedule_judge.proofs.Simulating.{state_of, Tells, AreTold, HasSince, ShowsIn, Shows, on_tick, may}
+use Rattle.schedule_judge.proofs.Simulating.{state_of, Tells, HasSince, ShowsIn, Shows, on_tick, may}
 use Rattle.schedule_judge.proofs.Simulating.{role_known}
-use Rattle.schedule_judge.proofs.Simulating.{runs_it, by_runner, runner_in_time, Turns, turned, run_turns}
+use Rattle.schedule_judge.proofs.Simulating.{runs_it, turned, run_turns}
 use Rattle.schedule_judge.proofs.Simulating.{preempt_turns}
 use Rattle.schedule_judge.proofs.Simulating.{take_turns, completed_shows, given_up_shows, next_number, released_shows}
 use Rattle.schedule_judge.proofs.Simulating.{ticked_shows, waited_shows}

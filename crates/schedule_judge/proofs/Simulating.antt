@@ -1,25 +1,24 @@
 -- The schedule that a run's printed steps make so far tells what the run's state is, so each step may come.
 use Rattle.std.proofs.Common.{◌≡◌, ◌≢◌, ◌≤◌, ◌<◌, ◌+◌, ◌-◌, ◌⊎◌, inl, inr, ℕ, zero, suc, List, ◌∷◌, ◌++◌, [], length}
 use Rattle.std.proofs.Common.{map, refl}
-use Rattle.std.proofs.Common.{sym, ap, ◌∙◌, subst, Bool, true, false, not, cond, Option, Some, None, arith, nat_le}
+use Rattle.std.proofs.Common.{sym, ap, ◌∙◌, subst, Bool, true, false, cond, Option, Some, None, arith, nat_le}
 use Rattle.std.proofs.Common.{nat_lt}
-use Rattle.std.proofs.Common.{◌==◌, eqb, get_or, slice_get, le-leb, leb-true, le-ltb, lt-ltb, ltb-true, ltb-false}
+use Rattle.std.proofs.Common.{◌==◌, eqb, get_or, slice_get, le-leb, leb-true, le-ltb, ltb-true, ltb-false}
 use Rattle.std.proofs.Common.{eqb-true, eq-eqb, ne_eqb}
 use Rattle.std.proofs.Common.{length-append}
-use Rattle.std.specs.Option.{option_or, option_map_or}
+use Rattle.std.specs.Option.{option_map_or}
 use Rattle.std.proofs.lemmas.Bool.{eqb-false, leb-false, lt-leb}
 use Rattle.std.proofs.lemmas.List.{get_or_append_left, length-map}
 use Rattle.std.proofs.lemmas.Option.{slice_get-get_or}
 use Rattle.std.proofs.Math.Seq.{get_or-append_seam}
 use Rattle.dover_model.specs.JobFacts.{JobFacts}
 use Rattle.dover_model.specs.declared.events.Event.{Event}
-use Rattle.dover_model.specs.declared.events.Event.TheVariants.{Release, Run, Preempt, Take, Complete, Abandon, End}
+use Rattle.dover_model.specs.declared.events.Event.TheVariants.{Run, Preempt, Take}
 use Rattle.dover_model.specs.declared.events.Role.{Role}
 use Rattle.dover_model.specs.declared.events.Role.TheVariants.{Coming, Fresh, Waiting, Held, Running, Done, Gone}
 use Rattle.dover_model.specs.declared.events.Task.{Task}
-use Rattle.dover_model.specs.Common.{State, is_coming, is_running, is_privileged, running, left, latest_start, Prints}
-use Rattle.dover_model.specs.Common.{Waits}
-use Rattle.dover_model.specs.Common.{Ticks, after, displaced, role_after, with_role, ticked, IsMember, Each, IsSound}
+use Rattle.dover_model.specs.Common.{State, is_coming, is_running, is_privileged, running, left}
+use Rattle.dover_model.specs.Common.{displaced, role_after, with_role, ticked, IsMember, Each, IsSound}
 use Rattle.dover_model.specs.Common.{NoneRuns}
 use Rattle.dover_model.specs.Common.{IsNumberedFrom}
 use Rattle.dover_model.proofs.lists.Members.{on_map, map_member, found, not_found}
@@ -28,14 +27,13 @@ use Rattle.dover_model.proofs.steps.Moves.{says, active_slack, displaced_rests}
 use Rattle.dover_model.proofs.runs.Honest.{numbers_low}
 use Rattle.dover_model.proofs.steps.Roles.{is_running_role, is_coming_role, one_number, passes, fails}
 use Rattle.schedule_judge.specs.declared.book.Turn.{Turn}
-use Rattle.schedule_judge.specs.declared.causes.Cause.{Cause}
 use Rattle.schedule_judge.specs.declared.causes.Cause.TheVariants as cause
 use Rattle.schedule_judge.specs.declared.jobs.JobState.{JobState}
 use Rattle.schedule_judge.specs.declared.jobs.JobState.TheVariants.{Open, Completed, Abandoned}
 use Rattle.schedule_judge.specs.declared.jobs.ToldJob.{ToldJob}
 use Rattle.schedule_judge.specs.Jobs.{fresh, nobody, ran, settled, told_of, is_open, is_open_state, may_run}
-use Rattle.schedule_judge.specs.Legal.{Schedule, unless, ran_cause, turn_cause, tick_cause, runs, is_idle, is_served}
-use Rattle.schedule_judge.specs.Legal.{run_cause, switch_cause, complete_cause, is_past, abandon_cause, jobs_stopped}
+use Rattle.schedule_judge.specs.Legal.{Schedule, ran_cause, turn_cause, tick_cause, runs}
+use Rattle.schedule_judge.specs.Legal.{jobs_stopped}
 use Rattle.schedule_judge.proofs.Worth.{told_same, told_other, told_count}
 
 -- ---- what a schedule tells of a state
@@ -417,8 +415,12 @@ module _ (s : State) (sound : IsSound s) (st : Schedule) (it : Shows s st) where
       → ShowsIn s.clock s.clock (map (in_role x Gone) s.tasks) (told_of (settled Abandoned) st.jobs x.number) st.turn
   given_up_shows r x mr is m waits = record {
     past = omega arith;
-    count = omega (arith, length-map s.tasks (in_role x Gone), it.count,
-        told_count (settled Abandoned) st.jobs x.number);
+    count = omega (
+      arith,
+      length-map s.tasks (in_role x Gone),
+      it.count,
+      told_count (settled Abandoned) st.jobs x.number,
+    );
     known = on_map (in_role x Gone) (λ t. is_coming t
         ≡ nat_le (length (told_of (settled Abandoned) st.jobs x.number)) t.number) s.tasks
         (λ t mt. ended_stays x m out Gone refl st.jobs it.told low t mt ∙ it.known t mt

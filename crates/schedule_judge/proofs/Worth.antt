@@ -4,10 +4,10 @@ use Rattle.std.proofs.Common.{sym, ap}
 use Rattle.std.proofs.Common.{◌∙◌, subst, Bool, true, false, not, cond, Option, Some, None, arith, nat_le, nat_lt, ◌==◌}
 use Rattle.std.proofs.Common.{eqb}
 use Rattle.std.proofs.Common.{get_or, sum_by, le-leb, leb-true, ltb-true, ltb-false, lt-ltb, eqb-true, eq-eqb, ne_eqb}
-use Rattle.std.proofs.Common.{length-append, get_or-set_same, get_or-set_other, ◌⊎◌, inl, inr, slice_get}
+use Rattle.std.proofs.Common.{length-append, get_or-set_same, get_or-set_other, slice_get}
 use Rattle.std.specs.List.{enumerate_from}
 use Rattle.std.specs.Option.{option_or, option_map_or}
-use Rattle.std.proofs.lemmas.List.{length-set, length_push, get_or_append_left}
+use Rattle.std.proofs.lemmas.List.{length-set, get_or_append_left}
 use Rattle.std.proofs.lemmas.Bool.{eqb-false, leb-false}
 use Rattle.std.proofs.lemmas.Option.{slice_get-get_or, slice_get_past}
 use Rattle.std.proofs.lemmas.List.Sums.{sum_by-cons}

@@ -5,19 +5,18 @@ use Rattle.std.proofs.Common.{length, Bool, true, false, cond, ◌||◌, ◌&&�
 use Rattle.std.proofs.Common.{nat_lt, nat_le, fold, filter, option_map, ltb-false, leb-true, append-nil}
 use Rattle.std.specs.Bool.{then_some}
 use Rattle.std.specs.Option.{option_or}
-use Rattle.std.proofs.lemmas.List.Elements.{filter_map-append}
-use Rattle.dover_model.specs.Common.{last_tick_in, most_lines, most_ready, is_ready, State, Finish, AreDueAlike}
-use Rattle.dover_model.specs.Common.{JobFacts, Declaration, under, Instance, IsValid, with_jobs, finishing}
+use Rattle.dover_model.specs.Common.{last_tick_in, most_lines, most_ready, is_ready, State}
+use Rattle.dover_model.specs.Common.{JobFacts, Declaration, under, Instance, IsValid, with_jobs}
 use Rattle.dover_model.specs.Common.{with_finishes, refusal_of, Session, JobItem, RefusedItem, FinishItem, Refused}
 use Rattle.dover_model.specs.Common.{RefusedJob, RefusedDone, EarlyFinish, with_item, with_named, instance_of}
-use Rattle.dover_model.specs.Common.{job_of_item, finish_of_item, admitted_jobs, early_finishes, refuses_lines}
+use Rattle.dover_model.specs.Common.{admitted_jobs, early_finishes, refuses_lines}
 use Rattle.dover_model.specs.Common.{may_finish_early, early_at, finish_at, is_right, is_full, refusal_in, refused_mark}
-use Rattle.dover_model.specs.Common.{printed, printed_of, settled, settled_state, header, text_of, refused_text}
+use Rattle.dover_model.specs.Common.{printed, settled, settled_state, header, text_of, refused_text}
 use Rattle.dover_model.specs.Common.{texts_among, places_of, put_in, text_of_line, FeedLine, RatioLine, FactorLine}
 use Rattle.dover_model.specs.Common.{JobLine, TickLine, DoneLine, EndLine, feed_line, Cause, Lines, Line, Declared}
 use Rattle.dover_model.specs.Common.{Order, NotAdmitted, Standing, Open, Ended, Faulty, Account, NotDone, late_cause}
 use Rattle.dover_model.specs.Common.{later_line_cause, with_fault, with_refused_at, with_line, next_line, due_lines}
-use Rattle.dover_model.specs.Common.{fault_text, Begins, IsMember, HaveTheSame}
+use Rattle.dover_model.specs.Common.{fault_text, Begins, IsMember}
 use Rattle.dover_model.specs.declared.events.Event.{Event}
 use Rattle.dover_model.specs.declared.events.Event.TheVariants.{Complete}
 use Rattle.dover_model.specs.declared.events.Refusal.{Refusal}
@@ -25,10 +24,10 @@ use Rattle.dover_model.specs.declared.events.Refusal.TheVariants.{Late, Full}
 use Rattle.dover_model.specs.declared.events.Version.{Version}
 use Rattle.dover_model.specs.declared.events.Version.TheVariants.{Three, Four}
 use Rattle.dover_model.proofs.sessions.Accounts.{account_with, Holds, IsKept, lines_goes}
-use Rattle.dover_model.proofs.finishes.FinishOrders.{same_alike, settled_alike, state_alike, finish_alike, run_alike}
+use Rattle.snapshot.proofs.RunItems.{kept, kept_append, kept_jobs, kept_early}
+use Rattle.dover_model.specs.Common.{Item}
 use Rattle.dover_model.proofs.sessions.Fullness.{admitted_in}
 use Rattle.dover_model.proofs.finishes.Further.{completes_at_mark}
-use Rattle.dover_model.proofs.lists.Members.{each_append, member_front, member_behind}
 use Rattle.admission.proofs.Joining.{admitted_valid}
 use Rattle.dover_model.proofs.sessions.Emitting.{texts_more, texts_job, texts_refused}
 use Rattle.dover_model.proofs.sessions.Growing.{Reads, reads_later, job_instance, finish_instance, settled_later}
@@ -37,30 +36,32 @@ use Rattle.dover_model.proofs.settled.Prefixes.{settled_prefix}
 use Rattle.dover_model.proofs.sessions.PutIn.{places_after-append}
 use Rattle.event_feed.proofs.Counting.{after_form}
 
--- both are declared, with the same jobs under the same rules, and the same early finishes in whatever order
+-- both are declared, under the same rules, and hand in the same, but for what is refused
 pub record SameSession (S T : Session) : Type 0 where
   pub rules : T.rules ≡ S.rules
-  pub jobs : admitted_jobs T.items ≡ admitted_jobs S.items
-  pub finishes : HaveTheSame (early_finishes S.items) (early_finishes T.items)
+  pub items : kept T.items ≡ kept S.items
 
 abbrev pub SameRun : Option Session → Option Session → Type 0
 SameRun None t = ⊥
 SameRun (Some S) None = ⊥
 SameRun (Some S) (Some T) = SameSession S T
 
--- the run of the other is that of its jobs, with the other's finishes
-pub session_is : (S T : Session) → SameSession S T
-    → instance_of T ≡ finishing (instance_of S) (early_finishes T.items)
+-- so they have the same jobs
+pub same_jobs : (S T : Session) → SameSession S T → admitted_jobs T.items ≡ admitted_jobs S.items
+same_jobs S T same = sym (kept_jobs T.items) ∙ ap admitted_jobs same.items ∙ kept_jobs S.items
+
+-- and the same run
+pub session_is : (S T : Session) → SameSession S T → instance_of T ≡ instance_of S
 session_is S T same = ap (λ r. record { rules = under r (early_finishes T.items); jobs = admitted_jobs T.items })
     same.rules
-    ∙ ap (λ js. record { rules = under S.rules (early_finishes T.items); jobs = js }) same.jobs
+    ∙ ap (λ fs. record { rules = under S.rules fs; jobs = admitted_jobs T.items })
+    (sym (kept_early T.items) ∙ ap early_finishes same.items ∙ kept_early S.items)
+    ∙ ap (λ js. record { rules = under S.rules (early_finishes S.items); jobs = js }) (same_jobs S T same)
 
 -- so the same state is settled
 pub state_same : (S T : Session) (mark : ℕ) → SameSession S T
     → settled_state (instance_of T) mark ≡ settled_state (instance_of S) mark
 state_same S T mark same = ap (λ K. settled_state K mark) (session_is S T same)
-    ∙ state_alike (instance_of S) (early_finishes T.items) (early_finishes S.items)
-    (same_alike (early_finishes T.items) (early_finishes S.items) (same.finishes.1, same.finishes.0)) mark
 
 -- what a later line depends on is the same
 abbrev pub Alike : Account → Account → Type 0
@@ -164,43 +165,18 @@ module _ (S T : Session) (mark lines : ℕ) (holds : Holds S mark lines) (holds_
   abbrev J : Instance
   J = instance_of S
 
-  -- the other's jobs with its finishes
-  other_is : instance_of T ≡ finishing J (early_finishes T.items)
+  -- the other's run
+  other_is : instance_of T ≡ J
   other_is = session_is S T same
-
-  -- with these finishes behind them both settle and print the same
-  module _ (more : List Finish) where
-    alike_with : AreDueAlike (early_finishes T.items ++ more) (early_finishes S.items ++ more)
-    alike_with = same_alike (early_finishes T.items ++ more) (early_finishes S.items ++ more) (
-      each_append (λ f. IsMember f (early_finishes S.items ++ more)) (early_finishes T.items) more
-          (λ f m. member_front (early_finishes S.items) more f (same.finishes.1 f m))
-          (λ f m. member_behind (early_finishes S.items) more f m),
-      each_append (λ f. IsMember f (early_finishes T.items ++ more)) (early_finishes S.items) more
-          (λ f m. member_front (early_finishes T.items) more f (same.finishes.0 f m))
-          (λ f m. member_behind (early_finishes T.items) more f m),
-    )
-
-    settled_with : (m : ℕ) → settled (with_finishes (instance_of T) more) m ≡ settled (with_finishes J more) m
-    settled_with m = ap (λ K. settled (with_finishes K more) m) other_is
-        ∙ settled_alike J (early_finishes T.items ++ more) (early_finishes S.items ++ more) alike_with m
-
-  alike_now : AreDueAlike (early_finishes T.items) (early_finishes S.items)
-  alike_now = same_alike (early_finishes T.items) (early_finishes S.items) (same.finishes.1, same.finishes.0)
 
   settled_same : (m : ℕ) → settled (instance_of T) m ≡ settled J m
   settled_same m = ap (λ K. settled K m) other_is
-      ∙ settled_alike J (early_finishes T.items) (early_finishes S.items) alike_now m
-
-  printed_same : printed (instance_of T) ≡ printed J
-  printed_same = ap printed other_is
-      ∙ ap printed_of (run_alike J (early_finishes T.items) (early_finishes S.items) alike_now)
 
   -- the same done lines are right
   early_same : (t n : ℕ) → early_at T t n ≡ early_at S t n
   early_same t n = ap (λ v. cond (may_finish_early v) (finish_at (instance_of T) t n) None)
       (ap (λ (r : Declaration). r.version) same.rules)
-      ∙ ap (λ o. cond (may_finish_early S.rules.version) o None) (ap (λ K. finish_at K t n) other_is
-      ∙ finish_alike J (early_finishes T.items) (early_finishes S.items) alike_now t n)
+      ∙ ap (λ K. cond (may_finish_early S.rules.version) (finish_at K t n) None) other_is
 
   faults_alike : (cause : Cause) → GoAlike a b (with_fault counted_a cause) (with_fault counted_b cause)
   faults_alike cause = record {
@@ -228,27 +204,15 @@ module _ (S T : Session) (mark lines : ℕ) (holds : Holds S mark lines) (holds_
         alike = (refl, refl, refl, same);
         text = map text_of it.0;
         first = end_adds S mark lines holds J (λ m. refl) it.0 refl it.1;
-        other = end_adds T mark lines holds_other J settled_same it.0 printed_same it.1;
+        other = end_adds T mark lines holds_other J settled_same it.0 (ap printed other_is) it.1;
       }
 
   -- with one item more
-  same_items : (longer other : Session) → other.rules ≡ longer.rules → (jobs : List JobFacts) (more : List Finish)
-      → admitted_jobs longer.items ≡ admitted_jobs S.items ++ jobs
-      → admitted_jobs other.items ≡ admitted_jobs T.items ++ jobs
-      → early_finishes longer.items ≡ early_finishes S.items ++ more
-      → early_finishes other.items ≡ early_finishes T.items ++ more → SameSession longer other
-  same_items longer other rules jobs more jobs_S jobs_T early_S early_T = record {
-    rules = rules;
-    jobs = jobs_T ∙ ap (λ js. js ++ jobs) same.jobs ∙ sym jobs_S;
-    finishes = subst (λ fs. HaveTheSame fs (early_finishes other.items)) (sym early_S)
-        (subst (HaveTheSame (early_finishes S.items ++ more)) (sym early_T) (
-          each_append (λ f. IsMember f (early_finishes T.items ++ more)) (early_finishes S.items) more
-              (λ f m. member_front (early_finishes T.items) more f (same.finishes.0 f m))
-              (λ f m. member_behind (early_finishes T.items) more f m),
-          each_append (λ f. IsMember f (early_finishes S.items ++ more)) (early_finishes T.items) more
-              (λ f m. member_front (early_finishes S.items) more f (same.finishes.1 f m))
-              (λ f m. member_behind (early_finishes S.items) more f m),
-        ));
+  same_more : (i : Item) → SameSession (with_item S i) (with_item T i)
+  same_more i = record {
+    rules = same.rules;
+    items = kept_append T.items (i ∷ []) ∙ ap (λ is. is ++ kept (i ∷ [])) same.items
+        ∙ sym (kept_append S.items (i ∷ []));
   }
 
   jobs_alike : (j : JobFacts) → mark ≤ j.release → refusal_in S j ≡ None
@@ -265,10 +229,7 @@ module _ (S T : Session) (mark lines : ℕ) (holds : Holds S mark lines) (holds_
           refl,
           refl,
           refl,
-          same_items (with_item S (JobItem j)) (with_item T (JobItem j)) same.rules (j ∷ []) []
-              (ap (λ (K : Instance). K.jobs) (job_instance S j)) (ap (λ (K : Instance). K.jobs) (job_instance T j))
-              (filter_map-append finish_of_item S.items (JobItem j ∷ []))
-              (filter_map-append finish_of_item T.items (JobItem j ∷ [])),
+          same_more (JobItem j),
         );
         text = map text_of it.0;
         first = job_adds S mark lines holds J (λ m. refl) it.0 j it.1;
@@ -281,7 +242,6 @@ module _ (S T : Session) (mark lines : ℕ) (holds : Holds S mark lines) (holds_
         both_settled : settled (with_jobs (instance_of T) (j ∷ [])) j.release
             ≡ settled (with_jobs J (j ∷ [])) j.release
         both_settled = ap (λ K. settled (with_jobs K (j ∷ [])) j.release) other_is
-            ∙ settled_alike (with_jobs J (j ∷ [])) (early_finishes T.items) (early_finishes S.items) alike_now j.release
 
   -- a refused line, behind a mark that it may have raised
   refused_alike : (r : Refused) → mark ≤ r.at
@@ -294,11 +254,7 @@ module _ (S T : Session) (mark lines : ℕ) (holds : Holds S mark lines) (holds_
           refl,
           refl,
           refl,
-          same_items (with_item S (RefusedItem r)) (with_item T (RefusedItem r)) same.rules [] []
-              (filter_map-append job_of_item S.items (RefusedItem r ∷ []))
-              (filter_map-append job_of_item T.items (RefusedItem r ∷ []))
-              (filter_map-append finish_of_item S.items (RefusedItem r ∷ []))
-              (filter_map-append finish_of_item T.items (RefusedItem r ∷ [])),
+          same_more (RefusedItem r),
         );
         text = map text_of it.0 ++ refused_text r ∷ [];
         first = refused_adds S mark lines holds J (λ m. refl) it.0 r raised it.1;
@@ -314,15 +270,12 @@ module _ (S T : Session) (mark lines : ℕ) (holds : Holds S mark lines) (holds_
       refl,
       refl,
       refl,
-      same_items (with_item S (FinishItem f)) (with_item T (FinishItem f)) same.rules [] (f.finish ∷ [])
-          (filter_map-append job_of_item S.items (FinishItem f ∷ []))
-          (filter_map-append job_of_item T.items (FinishItem f ∷ []))
-          (filter_map-append finish_of_item S.items (FinishItem f ∷ []))
-          (filter_map-append finish_of_item T.items (FinishItem f ∷ [])),
+      same_more (FinishItem f),
     );
     text = map text_of it.0;
     first = finish_adds S mark lines holds J (λ m. refl) it.0 f t it.1;
-    other = finish_adds T mark lines holds_other J settled_same it.0 f t (settled_with (f.finish ∷ []) t ∙ it.1);
+    other = finish_adds T mark lines holds_other J settled_same it.0 f t
+        (ap (λ L. settled (with_finishes L (f.finish ∷ [])) t) other_is ∙ it.1);
   } where
     K : Instance
     K = with_finishes J (f.finish ∷ [])
@@ -354,7 +307,7 @@ module _ (S T : Session) (mark lines : ℕ) (holds : Holds S mark lines) (holds_
     refusal_of_both : refusal_of T.rules (admitted_jobs T.items) j ≡ refusal_of S.rules
         (admitted_jobs S.items) j
     refusal_of_both = ap (λ r. refusal_of r (admitted_jobs T.items) j) same.rules
-        ∙ ap (λ js. refusal_of S.rules js j) same.jobs
+        ∙ ap (λ js. refusal_of S.rules js j) (same_jobs S T same)
 
     refusal_in_both : refusal_in T j ≡ refusal_in S j
     refusal_in_both = ap (λ o. option_or o (then_some (is_full (instance_of T) j.release) Full)) refusal_of_both

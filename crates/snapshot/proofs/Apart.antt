@@ -1,24 +1,21 @@
 -- Snapshots of feeds are whole, no front of one is refused, and one ends by itself.
-use Rattle.std.proofs.Common.{◌≡◌, ℕ, ◌+◌, List, [], ◌∷◌, ◌++◌, length, length-append, map, refl, sym, ap, ◌∙◌, subst}
-use Rattle.std.proofs.Common.{arith, Some, codes, fold}
-use Rattle.std.proofs.lemmas.List.{length-map}
+use Rattle.std.proofs.Common.{◌≡◌, ◌⊎◌, inl, inr, ℕ, List, [], ◌∷◌, ◌++◌, length, length-append, refl, sym}
+use Rattle.std.proofs.Common.{ap, ◌∙◌, subst, arith, Some, codes, fold}
 use Rattle.std.proofs.lemmas.List.Sums.{fold-append}
 use Rattle.dover_model.specs.declared.events.Task.{Task}
-use Rattle.dover_model.specs.Common.{Session, in_lines, whole_lines, rest_of, account, Begins}
-use Rattle.snapshot.specs.Snapshot.{MayPause, Head, head_line, state_line, head_of_feed, snapshot_lines, snapshot}
-use Rattle.snapshot.specs.Reading.{Begun, Taken, Refused, next_line, reading_of, read_head}
+use Rattle.dover_model.specs.Common.{Item, Session, in_lines, whole_lines, rest_of, account, Begins}
+use Rattle.snapshot.specs.Snapshot.{MayPause, Head, head_of_feed, snapshot_lines, snapshot}
+use Rattle.snapshot.specs.Reading.{Begun, Going, Taken, Refused, next_line, reading_of}
 use Rattle.snapshot.specs.Kept.{IsWhole}
 use Rattle.event_feed.proofs.Behind.{whole_joined, rest_joined, whole_behind}
-use Rattle.snapshot.proofs.Feeds.{named, holds, few, reached, tasks, lines_taken, lines_feedless, snapshot_is, head_is}
-use Rattle.snapshot.proofs.Feeds.{listed}
-use Rattle.snapshot.proofs.Spelled.{read_head-head_line}
-use Rattle.snapshot.proofs.Takeable.{whole}
+use Rattle.snapshot.proofs.Feeds.{named, tasks, lines_taken, is_whole, lines_feedless, snapshot_is}
+use Rattle.snapshot.proofs.RunItems.{kept}
 
 module _ (F : List ℕ) (may : MayPause F) where
   abbrev S : Session
   S = (named F may).0
 
-  there : (account F).session ≡ Some S
+  pub there : (account F).session ≡ Some S
   there = (named F may).1
 
   -- the lines of its snapshot
@@ -27,13 +24,17 @@ module _ (F : List ℕ) (may : MayPause F) where
       ∙ whole_joined (snapshot_lines (account F) S) (lines_feedless F may S there)
 
   -- they are whole
-  pub snapshot_whole : (h : Head) × (ts : List Task) × IsWhole h ts (whole_lines (snapshot F))
+  pub whole_lines_are : IsWhole (head_of_feed (account F) S) (kept S.items) (tasks F may S there)
+      (snapshot_lines (account F) S)
+  whole_lines_are = is_whole F may S there
+
+  pub snapshot_whole : (h : Head) × (items : List Item) × (ts : List Task)
+      × IsWhole h items ts (whole_lines (snapshot F))
   snapshot_whole = (
     head_of_feed (account F) S,
+    kept S.items,
     tasks F may S there,
-    subst (IsWhole (head_of_feed (account F) S) (tasks F may S there)) (sym lines_are)
-        (whole S (account F).mark (account F).lines (holds F may S there) (few F may S there) (listed F may S there)
-        (reached F may S there)),
+    subst (IsWhole (head_of_feed (account F) S) (kept S.items) (tasks F may S there)) (sym lines_are) whole_lines_are,
   )
 
   -- a refused line stays refused
@@ -47,20 +48,47 @@ module _ (F : List ℕ) (may : MayPause F) where
   never_refused ls at begins refused =
       let behind : reading_of (whole_lines (snapshot F)) ≡ Refused at = ap reading_of begins.1
       ∙ fold-append next_line Begun ls begins.0 ∙ ap (λ r. fold next_line r begins.0) refused ∙ stays at begins.0 in
-      let clash : Taken (head_of_feed (account F) S) (tasks F may S there) ≡ Refused at =
+      let clash : Taken (head_of_feed (account F) S) (kept S.items) (tasks F may S there) ≡ Refused at =
       sym (lines_taken F may S there) ∙ sym (ap reading_of lines_are) ∙ behind in
       absurd cc
 
--- lists as long that begin the same list are the same
-same_front : {X : Type 0} (xs ys us vs : List X) → length xs ≡ length ys → xs ++ us ≡ ys ++ vs → xs ≡ ys
-same_front [] [] us vs long same = refl
-same_front [] (y ∷ ys) us vs long same = absurd (omega (arith, long))
-same_front (x ∷ xs) [] us vs long same = absurd (omega (arith, long))
-same_front (x ∷ xs) (y ∷ ys) us vs long same =
+-- a whole snapshot stays so, whatever follows
+stays_taken : (h : Head) (items : List Item) (ts : List Task) (ls : List (List ℕ))
+    → fold next_line (Taken h items ts) ls ≡ Taken h items ts
+stays_taken h items ts [] = refl
+stays_taken h items ts (l ∷ ls) = stays_taken h items ts ls
+
+-- of two lists that begin the same one, the first is the other, or goes on beyond it, or the other beyond the first
+same_front : {X : Type 0} (xs ys us vs : List X) → xs ++ us ≡ ys ++ vs
+    → (xs ≡ ys) ⊎ ((x : X) × (more : List X) × (xs ≡ ys ++ x ∷ more)) ⊎ ((x : X) × (more : List X)
+    × (ys ≡ xs ++ x ∷ more))
+same_front [] [] us vs same = inl refl
+same_front [] (y ∷ ys) us vs same = inr (inr (y, ys, refl))
+same_front (x ∷ xs) [] us vs same = inr (inl (x, xs, refl))
+same_front (x ∷ xs) (y ∷ ys) us vs same =
     let whole : x ∷ (xs ++ us) ≡ y ∷ (ys ++ vs) = same in
     let first : x ≡ y = cc in
-    let rest : xs ++ us ≡ ys ++ vs = cc in
-    let more : xs ≡ ys = same_front xs ys us vs (omega (arith, long)) rest in cc
+    let rest : xs ++ us ≡ ys ++ vs = cc in by first (same_front xs ys us vs rest) where
+      by : x ≡ y → (xs ≡ ys) ⊎ ((z : _) × (more : List _) × (xs ≡ ys ++ z ∷ more)) ⊎ ((z : _) × (more : List _)
+          × (ys ≡ xs ++ z ∷ more))
+          → (x ∷ xs ≡ y ∷ ys) ⊎ ((z : _) × (more : List _) × (x ∷ xs ≡ y ∷ ys ++ z ∷ more)) ⊎ ((z : _)
+          × (more : List _) × (y ∷ ys ≡ x ∷ xs ++ z ∷ more))
+      by e (inl rest) = inl (cc)
+      by e (inr (inl (z, more, rest))) = inr (inl (z, more, cc))
+      by e (inr (inr (z, more, rest))) = inr (inr (z, more, cc))
+
+-- what a list with a last item begins with, and goes on beyond, its front begins with
+last_of_two : {X : Type 0} (front : List X) (last : X) (ys : List X) (y : X) (more : List X)
+    → front ++ last ∷ [] ≡ ys ++ y ∷ more → (rest : List X) × (front ≡ ys ++ rest)
+last_of_two front last [] y more same = (front, refl)
+last_of_two [] last (z ∷ ys) y more same =
+    absurd (omega (arith, ap length same, length-append ys (y ∷ more)))
+last_of_two (x ∷ front) last (z ∷ ys) y more same =
+    let whole : x ∷ (front ++ last ∷ []) ≡ z ∷ (ys ++ y ∷ more) = same in
+    let first : x ≡ z = cc in
+    let rest : front ++ last ∷ [] ≡ ys ++ y ∷ more = cc in
+    let it = last_of_two front last ys y more rest in
+    let tail : front ≡ ys ++ it.0 = it.1 in (it.0, cc)
 
 -- what follows the same list is the same
 same_back : {X : Type 0} (xs us vs : List X) → xs ++ us ≡ xs ++ vs → us ≡ vs
@@ -80,38 +108,31 @@ module _ (F G H I : List ℕ) (may : MayPause F) (other : MayPause G) (same : sn
       ∙ sym (whole_behind (snapshot F) (rest_none F may) H) ∙ ap whole_lines same
       ∙ whole_behind (snapshot G) (rest_none G other) I ∙ ap (λ ls. ls ++ whole_lines I) (lines_are G other)
 
-  -- the first lines are the same
-  heads : head_line (head_of_feed (account F) (S F may)) ≡ head_line (head_of_feed (account G) (S G other))
-  heads = let whole : head_line (head_of_feed (account F) (S F may)) ∷ _ ≡ head_line
-      (head_of_feed (account G) (S G other)) ∷ _ = lines_same in cc
-
-  heads_same : head_of_feed (account F) (S F may) ≡ head_of_feed (account G) (S G other)
-  heads_same =
-      let e : Some (head_of_feed (account F) (S F may)) ≡ Some (head_of_feed (account G) (S G other)) =
-      sym (read_head-head_line (head_of_feed (account F) (S F may)) (head_is F may (S F may) (there F may)))
-      ∙ ap read_head heads
-      ∙ read_head-head_line (head_of_feed (account G) (S G other)) (head_is G other (S G other) (there G other)) in cc
-
-  -- so there are as many lines
-  count : (X : List ℕ) (m : MayPause X)
-      → length (snapshot_lines (account X) (S X m)) ≡ (head_of_feed (account X) (S X m)).jobs + 2
-  count X m =
-      let it = whole (S X m) (account X).mark (account X).lines (holds X m (S X m) (there X m))
-      (few X m (S X m) (there X m)) (listed X m (S X m) (there X m)) (reached X m (S X m) (there X m)) in
-      let all : length (tasks X m (S X m) (there X m)) ≡ (head_of_feed (account X) (S X m)).jobs = it.all in
-      omega (
-        arith,
-        length-append (map state_line (tasks X m (S X m) (there X m))) (codes "resume" ∷ []),
-        length-map (tasks X m (S X m) (there X m)) (λ (t : Task). state_line t),
-        all,
-      )
+  -- no whole snapshot goes on as another
+  no_longer : (X Y : List ℕ) (m : MayPause X) (n : MayPause Y) (l : List ℕ) (more : List (List ℕ))
+      → snapshot_lines (account X) (S X m) ≡ snapshot_lines (account Y) (S Y n) ++ l ∷ more → ⊥
+  no_longer X Y m n l more longer =
+      let it = whole_lines_are X m in
+      let ends = last_of_two it.front (codes "resume") (snapshot_lines (account Y) (S Y n)) l more
+      (sym it.text ∙ longer) in
+      let still : Going _ _ _ ≡ Taken _ _ _ = sym it.read.reads ∙ ap reading_of ends.1
+      ∙ fold-append next_line Begun (snapshot_lines (account Y) (S Y n)) ends.0
+      ∙ ap (λ r. fold next_line r ends.0) (lines_taken Y n (S Y n) (there Y n)) ∙ stays_taken _ _ _ ends.0 in
+      absurd (cc)
 
   snapshots_same : snapshot F ≡ snapshot G
-  snapshots_same = snapshot_is F may (S F may) (there F may)
-      ∙ ap in_lines (same_front (snapshot_lines (account F) (S F may)) (snapshot_lines (account G) (S G other))
-      (whole_lines H) (whole_lines I)
-      (omega (arith, count F may, count G other, ap (λ (h : Head). h.jobs) heads_same)) lines_same)
-      ∙ sym (snapshot_is G other (S G other) (there G other))
+  snapshots_same = by (same_front (snapshot_lines (account F) (S F may)) (snapshot_lines (account G) (S G other))
+      (whole_lines H) (whole_lines I) lines_same) where
+        by : (snapshot_lines (account F) (S F may) ≡ snapshot_lines (account G) (S G other))
+            ⊎ ((l : List ℕ) × (more : List (List ℕ))
+            × (snapshot_lines (account F) (S F may) ≡ snapshot_lines (account G) (S G other) ++ l ∷ more))
+            ⊎ ((l : List ℕ) × (more : List (List ℕ))
+            × (snapshot_lines (account G) (S G other) ≡ snapshot_lines (account F) (S F may) ++ l ∷ more))
+            → snapshot F ≡ snapshot G
+        by (inl e) = snapshot_is F may (S F may) (there F may) ∙ ap in_lines e
+            ∙ sym (snapshot_is G other (S G other) (there G other))
+        by (inr (inl (l, more, e))) = absurd (no_longer F G may other l more e)
+        by (inr (inr (l, more, e))) = absurd (no_longer G F other may l more e)
 
   -- a snapshot ends by itself
   pub ends_by_itself : (snapshot F ≡ snapshot G) × (H ≡ I)

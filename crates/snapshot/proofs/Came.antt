@@ -1,12 +1,12 @@
 -- The early finishes of a session are those of the jobs that are done with work left at its mark.
-use Rattle.std.proofs.Common.{◌≡◌, ◌⊎◌, ℕ, ◌+◌, ◌≤◌, ◌<◌, max, inl, inr, List, [], ◌∷◌, ◌++◌, length, length-append}
-use Rattle.std.proofs.Common.{append_assoc, append-nil, refl, sym, ap, ◌∙◌, subst, arith, Bool, true, false, cond, eqb}
+use Rattle.std.proofs.Common.{◌≡◌, ◌⊎◌, ℕ, ◌+◌, ◌≤◌, ◌<◌, inl, inr, List, [], ◌∷◌, ◌++◌, length, length-append}
+use Rattle.std.proofs.Common.{append-nil, refl, sym, ap, ◌∙◌, subst, arith, Bool, true, false, cond, eqb}
 use Rattle.std.proofs.lemmas.Bool.{eq-eqb, and_parts, ltb-true, lt-ltb}
 use Rattle.std.proofs.lemmas.List.Elements.{filter_map-append}
 use Rattle.std.specs.Prelude.{nat_lt, ◌==◌, ◌&&◌, not}
 use Rattle.dover_model.specs.Common.{JobFacts, Finish, is_due, goes_on, Declaration, Instance, IsValid, with_jobs}
 use Rattle.dover_model.specs.Common.{with_finishes, HasPrinted, is_complete, Item, JobItem, RefusedItem, FinishItem}
-use Rattle.dover_model.specs.Common.{Session, mark_after, admitted_jobs, early_finishes, job_of_item, finish_of_item}
+use Rattle.dover_model.specs.Common.{Session, admitted_jobs, early_finishes, job_of_item, finish_of_item}
 use Rattle.dover_model.specs.Common.{instance_of, session_with, EarlyFinish, Refused, waits_for_mark, settled}
 use Rattle.dover_model.specs.Common.{settled_state, finish_now, RunsAtMark, IsMember, Each, Keeps, State, is_over, left}
 use Rattle.dover_model.specs.Common.{with_later, to_come, Move, Prints, Ticks, open_step, after, with_role}
@@ -19,7 +19,6 @@ use Rattle.dover_model.proofs.steps.Deeds.{Deed, Taken}
 use Rattle.dover_model.proofs.steps.Deeds.{Abandoned, Rested}
 use Rattle.dover_model.proofs.finishes.Further.{next_at_mark, printed_at_mark}
 use Rattle.dover_model.proofs.sessions.Growing.{job_instance, refused_instance, finish_instance, Finishes}
-use Rattle.dover_model.proofs.sessions.Growing.{finishing_job}
 use Rattle.dover_model.proofs.steps.Kept.{open_deed}
 use Rattle.dover_model.proofs.finishes.Meeting.{finishing_valid}
 use Rattle.dover_model.proofs.lists.Members.{on_map, member_either, each_append}
@@ -30,7 +29,6 @@ use Rattle.dover_model.proofs.rest.Resting.{come_above, numbers_below}
 use Rattle.dover_model.proofs.steps.Roles.{one_number}
 use Rattle.dover_model.proofs.settled.Settling.{at_barrier}
 use Rattle.dover_model.proofs.lists.Tests.{never}
-use Rattle.dover_model.proofs.sessions.SessionParts.{FollowsItems}
 use Rattle.dover_model.proofs.valid.Valid.{valid_front}
 use Rattle.snapshot.proofs.Paces.{HasCome, comes, printed_later}
 
@@ -97,7 +95,7 @@ module _ (rules : Declaration) where
   session items = session_with rules items
 
   -- at a later mark
-  come_later : (items : List Item) (mark later : ℕ) → IsValid (instance_of (session items)) → mark ≤ later
+  pub come_later : (items : List Item) (mark later : ℕ) → IsValid (instance_of (session items)) → mark ≤ later
       → HaveCome rules items mark → HaveCome rules items later
   come_later items mark later valid ordered it f member =
       let was = it f member in (
@@ -109,7 +107,7 @@ module _ (rules : Declaration) where
       )
 
   -- with a job
-  come_job : (items : List Item) (j : JobFacts) → IsValid (instance_of (session (items ++ JobItem j ∷ [])))
+  pub come_job : (items : List Item) (j : JobFacts) → IsValid (instance_of (session (items ++ JobItem j ∷ [])))
       → HaveCome rules items j.release → HaveCome rules (items ++ JobItem j ∷ []) j.release
   come_job items j valid it = by_finishes (filter_map-append finish_of_item items (JobItem j ∷ [])
       ∙ append-nil (early_finishes items)) where
@@ -168,7 +166,7 @@ module _ (rules : Declaration) where
             )
 
   -- with a refused line
-  come_refused : (items : List Item) (r : Refused) (mark : ℕ) → HaveCome rules items mark
+  pub come_refused : (items : List Item) (r : Refused) (mark : ℕ) → HaveCome rules items mark
       → HaveCome rules (items ++ RefusedItem r ∷ []) mark
   come_refused items r mark it f member =
       let is : instance_of (session (items ++ RefusedItem r ∷ [])) ≡ instance_of (session items) =
@@ -180,7 +178,7 @@ module _ (rules : Declaration) where
       )
 
   -- with an early finish
-  come_finish : (items : List Item) (e : EarlyFinish) → IsValid (instance_of (session items))
+  pub come_finish : (items : List Item) (e : EarlyFinish) → IsValid (instance_of (session items))
       → Finishes (session items) e → HaveCome rules items e.at
       → HaveCome rules (items ++ FinishItem e ∷ []) e.at
   come_finish items e valid says it = λ f member. by_member f
@@ -286,49 +284,3 @@ module _ (rules : Declaration) where
 
         front : Instance
         front = record { rules = all.rules; jobs = admitted_jobs items }
-
-  all_come : (items : List Item) (mark : ℕ) (more : List Item) → IsValid (instance_of (session (items ++ more)))
-      → FollowsItems rules items mark more → HaveCome rules items mark
-      → HaveCome rules (items ++ more) (mark_after mark more)
-  all_come items mark [] valid follows it =
-      subst (λ is. HaveCome rules is mark) (sym (append-nil items)) it
-  all_come items mark (JobItem j ∷ more) valid follows it =
-      let split : (items ++ JobItem j ∷ []) ++ more ≡ items ++ JobItem j ∷ more = append_assoc items
-      (JobItem j ∷ []) more in
-      let all : IsValid (instance_of (session ((items ++ JobItem j ∷ []) ++ more))) =
-      subst (λ is. IsValid (instance_of (session is))) (sym split) valid in
-      let next : IsValid (instance_of (session (items ++ JobItem j ∷ []))) =
-      front_valid (items ++ JobItem j ∷ []) more all in
-      let same : max mark j.release ≡ j.release = omega (arith, follows.0.no_fall) in
-      subst (λ is. HaveCome rules is (mark_after (max mark j.release) more)) split
-      (all_come (items ++ JobItem j ∷ []) (max mark j.release) more all follows.1
-      (subst (HaveCome rules (items ++ JobItem j ∷ [])) (sym same)
-      (come_job items j next (come_later items mark j.release (front_valid items (JobItem j ∷ []) next)
-      follows.0.no_fall it))))
-  all_come items mark (RefusedItem r ∷ more) valid follows it =
-      let split : (items ++ RefusedItem r ∷ []) ++ more ≡ items ++ RefusedItem r ∷ more =
-      append_assoc items (RefusedItem r ∷ []) more in
-      let all : IsValid (instance_of (session ((items ++ RefusedItem r ∷ []) ++ more))) =
-      subst (λ is. IsValid (instance_of (session is))) (sym split) valid in
-      let here : IsValid (instance_of (session items)) = front_valid items (RefusedItem r ∷ more) valid in
-      subst (λ is. HaveCome rules is (mark_after (max mark r.at) more)) split
-      (all_come (items ++ RefusedItem r ∷ []) (max mark r.at) more all follows.1
-      (come_refused items r (max mark r.at) (come_later items mark (max mark r.at) here (omega arith) it)))
-  all_come items mark (FinishItem e ∷ more) valid follows it =
-      let split : (items ++ FinishItem e ∷ []) ++ more ≡ items ++ FinishItem e ∷ more =
-      append_assoc items (FinishItem e ∷ []) more in
-      let all : IsValid (instance_of (session ((items ++ FinishItem e ∷ []) ++ more))) =
-      subst (λ is. IsValid (instance_of (session is))) (sym split) valid in
-      let here : IsValid (instance_of (session items)) = front_valid items (FinishItem e ∷ more) valid in
-      let same : max mark e.at ≡ e.at = omega (arith, follows.0.no_fall) in
-      subst (λ is. HaveCome rules is (mark_after (max mark e.at) more)) split
-      (all_come (items ++ FinishItem e ∷ []) (max mark e.at) more all follows.1
-      (subst (HaveCome rules (items ++ FinishItem e ∷ [])) (sym same)
-      (come_finish items e here (finishing_job (session items) e follows.0.right)
-      (come_later items mark e.at here follows.0.no_fall it))))
-
-  -- each early finish of a session has come at its mark
-  pub session_come : (items : List Item) (mark : ℕ) → IsValid (instance_of (session items))
-      → FollowsItems rules [] 0 items → mark_after 0 items ≤ mark → HaveCome rules items mark
-  session_come items mark valid follows low = come_later items (mark_after 0 items) mark valid low
-      (all_come [] 0 items valid follows (λ f none. absurd none))

@@ -13,7 +13,8 @@ use Rattle.dover_model.proofs.sessions.Former.{none_early}
 use Rattle.dover_model.proofs.sessions.Growing.{item_in, with_line_named, lines_at, settled_of_run, reads_new}
 use Rattle.dover_model.proofs.lists.Tests.{never}
 use Rattle.dover_model.proofs.sessions.Walks.{WalksTo, walks}
-use Rattle.snapshot.proofs.RunItems.{NoneRefused, jobs_only, no_places}
+use Rattle.snapshot.specs.Stored.{NoneRefused}
+use Rattle.snapshot.proofs.RunItems.{jobs_only, no_places}
 use Rattle.dover_model.proofs.sessions.SessionParts.{FollowsItems}
 use Rattle.dover_model.proofs.valid.ValidParts.{valid_parts}
 

@@ -1,11 +1,11 @@
 -- Each feed that may pause has a snapshot that is taken, each that is taken is that of a feed, and feeds with the same
 -- snapshot go on alike.
-use Rattle.std.proofs.Common.{◌≡◌, ℕ, suc, ◌+◌, ◌≤◌, List, [], ◌∷◌, ◌++◌, length, length-append, append_assoc, map}
+use Rattle.std.proofs.Common.{◌≡◌, ℕ, suc, ◌+◌, ◌≤◌, List, [], ◌∷◌, ◌++◌, length, length-append, append_assoc}
 use Rattle.std.proofs.Common.{refl, sym, ap, ◌∙◌, subst, true, false, cond, arith, Option, Some, None, codes}
 use Rattle.std.specs.List.{AllByRecursion, fold}
 use Rattle.std.proofs.lemmas.Grind.{flat_map-append}
 use Rattle.dover_model.specs.Common.{most_lines, most_jobs, Declaration, JobFacts, Session, instance_of, admitted_jobs}
-use Rattle.dover_model.specs.Common.{early_finishes, settled_state, HaveTheSame, jobs_of, State, in_lines, lines_of}
+use Rattle.dover_model.specs.Common.{Item, settled_state, State, in_lines, lines_of}
 use Rattle.dover_model.specs.Common.{whole_lines, rest_of, Standing, Open, Ended, Faulty, no_lines, next_line, account}
 use Rattle.dover_model.specs.Common.{due_lines, due, short_lines, fault_text}
 use Rattle.dover_model.specs.declared.events.Task.{Task}
@@ -15,16 +15,17 @@ use Rattle.dover_model.proofs.sessions.Accounts.{Holds, account_kept}
 use Rattle.dover_model.proofs.texts.Cuts.{HasNoFeed}
 use Rattle.event_feed.specs.Listing.{HasFewJobs}
 use Rattle.event_feed.proofs.Counting.{lines_counted}
-use Rattle.snapshot.specs.Snapshot.{MayPause, Head, IsHead, head_line, state_line, head_of_feed, snapshot_lines}
+use Rattle.snapshot.specs.Snapshot.{MayPause, Head, IsHead, head_line, stored_lines, head_of_feed, snapshot_lines}
 use Rattle.snapshot.specs.Snapshot.{snapshot}
-use Rattle.snapshot.specs.Reading.{Taken, early_in, reading_of}
+use Rattle.snapshot.specs.Reading.{Taken, reading_of}
+use Rattle.snapshot.specs.Kept.{IsWhole}
 use Rattle.snapshot.specs.Feeds.{GoOnEqually}
-use Rattle.snapshot.proofs.Alike.{Alike, SameRun, SameSession, GoAlike, lines_alike, state_same}
+use Rattle.snapshot.proofs.Alike.{Alike, SameRun, SameSession, GoAlike, lines_alike, state_same, same_jobs}
 use Rattle.event_feed.proofs.Behind.{same_lines, whole_behind, rest_behind, lines_whole, account_behind}
-use Rattle.snapshot.proofs.Feedless.{feedless_head, feedless_states}
-use Rattle.snapshot.proofs.Reached.{Reached, lines_reach, lines_few, few_open}
-use Rattle.snapshot.proofs.Same.{stand_jobs, same_finishes}
-use Rattle.snapshot.proofs.Takeable.{is_head, taken, holds_open, reaches_open}
+use Rattle.snapshot.proofs.Feedless.{feedless_head, feedless_stored}
+use Rattle.snapshot.proofs.Reached.{Reached, lines_reach, lines_few, few_open, holds_open, reaches_open}
+use Rattle.snapshot.proofs.RunItems.{kept}
+use Rattle.snapshot.proofs.Takeable.{is_head, taken, whole, lines_kept}
 
 -- ---- a feed that may pause
 
@@ -62,25 +63,29 @@ module _ (F : List ℕ) (may : MayPause F) where
     abbrev pub tasks : List Task
     tasks = (settled_state (instance_of S) (account F).mark).tasks
 
-    -- its snapshot is read to its end
-    pub lines_taken : reading_of (snapshot_lines (account F) S) ≡ Taken (head_of_feed (account F) S) tasks
-    lines_taken = taken S (account F).mark (account F).lines holds few listed reached
+    -- its snapshot is that of the items that aren't refused
+    lines_are : head_line (head_of_feed (account F) S) ∷ stored_lines (kept S.items) tasks ++ codes "resume" ∷ []
+        ≡ snapshot_lines (account F) S
+    lines_are = ap (λ ls. head_line (head_of_feed (account F) S) ∷ ls ++ codes "resume" ∷ [])
+        (lines_kept S.items tasks)
+
+    -- it is read to its end
+    pub lines_taken : reading_of (snapshot_lines (account F) S)
+        ≡ Taken (head_of_feed (account F) S) (kept S.items) tasks
+    lines_taken = ap reading_of (sym lines_are) ∙ taken S (account F).mark (account F).lines holds few listed reached
+
+    pub is_whole : IsWhole (head_of_feed (account F) S) (kept S.items) tasks (snapshot_lines (account F) S)
+    is_whole = subst (IsWhole (head_of_feed (account F) S) (kept S.items) tasks) lines_are
+        (whole S (account F).mark (account F).lines holds few listed reached)
 
     pub head_is : IsHead (head_of_feed (account F) S)
     head_is = is_head S (account F).mark (account F).lines holds few listed reached
 
     pub lines_feedless : AllByRecursion HasNoFeed (snapshot_lines (account F) S)
-    lines_feedless = (feedless_head (head_of_feed (account F) S), feedless_states tasks)
+    lines_feedless = (feedless_head (head_of_feed (account F) S), feedless_stored S.items tasks)
 
     pub snapshot_is : snapshot F ≡ in_lines (snapshot_lines (account F) S)
     snapshot_is = ap (λ o. elim o [ None ↦ [] | Some T ↦ in_lines (snapshot_lines (account F) T) ]) there
-
-    -- they are its session's, with the finishes that are stored of them
-    pub jobs_are : jobs_of tasks ≡ admitted_jobs S.items
-    jobs_are = stand_jobs S (account F).mark (account F).lines holds
-
-    pub finishes_are : HaveTheSame (early_finishes S.items) (early_in S.rules.version tasks)
-    finishes_are = same_finishes S (account F).mark (account F).lines holds
 
 -- ---- two feeds with the same snapshot
 
@@ -97,8 +102,8 @@ module _ (F G : List ℕ) (may : MayPause F) (may_other : MayPause G) (same : sn
   there_other : (account G).session ≡ Some T
   there_other = (named G may_other).1
 
-  reads_same : Taken (head_of_feed (account F) S) (tasks F may S there) ≡ Taken (head_of_feed (account G) T)
-      (tasks G may_other T there_other)
+  reads_same : Taken (head_of_feed (account F) S) (kept S.items) (tasks F may S there)
+      ≡ Taken (head_of_feed (account G) T) (kept T.items) (tasks G may_other T there_other)
   reads_same = sym (lines_taken F may S there)
       ∙ ap reading_of (same_lines (snapshot_lines (account F) S) (snapshot_lines (account G) T)
       (lines_feedless F may S there)
@@ -107,32 +112,19 @@ module _ (F G : List ℕ) (may : MayPause F) (may_other : MayPause G) (same : sn
       ∙ lines_taken G may_other T there_other
 
   head_same : head_of_feed (account F) S ≡ head_of_feed (account G) T
-  head_same = let e : Taken (head_of_feed (account F) S) (tasks F may S there) ≡ Taken (head_of_feed (account G) T)
-      (tasks G may_other T there_other) =
-      reads_same in cc
+  head_same = let e : Taken (head_of_feed (account F) S) (kept S.items) (tasks F may S there)
+      ≡ Taken (head_of_feed (account G) T) (kept T.items) (tasks G may_other T there_other) = reads_same in cc
 
-  tasks_same : tasks F may S there ≡ tasks G may_other T there_other
-  tasks_same = let e : Taken (head_of_feed (account F) S) (tasks F may S there) ≡ Taken (head_of_feed (account G) T)
-      (tasks G may_other T there_other) =
-      reads_same in cc
+  items_same : kept S.items ≡ kept T.items
+  items_same = let e : Taken (head_of_feed (account F) S) (kept S.items) (tasks F may S there)
+      ≡ Taken (head_of_feed (account G) T) (kept T.items) (tasks G may_other T there_other) = reads_same in cc
 
   rules_same : T.rules ≡ S.rules
   rules_same = sym (ap (λ (h : Head). h.rules) head_same)
 
-  -- the sessions have the same jobs, and the same early finishes
+  -- the sessions are the same, but for what is refused
   pub same_sessions : SameSession S T
-  same_sessions = record {
-    rules = rules_same;
-    jobs = sym (jobs_are G may_other T there_other) ∙ sym (ap jobs_of tasks_same) ∙ jobs_are F may S there;
-    finishes = (
-      λ f m. stored_there.1 f ((finishes_are F may S there).0 f m),
-      λ f m. (finishes_are F may S there).1 f (stored_there.0 f m),
-    );
-  } where
-    stored_there : HaveTheSame (early_finishes T.items) (early_in S.rules.version (tasks F may S there))
-    stored_there = subst (λ ts. HaveTheSame (early_finishes T.items) (early_in S.rules.version ts)) (sym tasks_same)
-        (subst (λ (r : Declaration). HaveTheSame (early_finishes T.items)
-        (early_in r.version (tasks G may_other T there_other))) rules_same (finishes_are G may_other T there_other))
+  same_sessions = record { rules = rules_same; items = sym items_same }
 
   -- they are alike
   pub same_alike : Alike (account F) (account G)
@@ -145,12 +137,6 @@ module _ (F G : List ℕ) (may : MayPause F) (may_other : MayPause G) (same : sn
   )
 
 -- ---- what depends on what is alike
-
--- the lines of a snapshot
-abbrev lines_from : Declaration → List JobFacts → List Task → ℕ → ℕ → List (List ℕ)
-lines_from rules jobs tasks lines mark =
-    head_line (record { rules = rules; lines = lines; mark = mark; jobs = length jobs })
-    ∷ map state_line tasks ++ codes "resume" ∷ []
 
 -- the line that refuses a feed that is too short
 abbrev short_from : ℕ → Standing → List (List ℕ)
@@ -169,7 +155,7 @@ module _ (F G : List ℕ) (alike : Alike (account F) (account G)) (whole : rest_
   may_pause may = record {
     declared = let it = both_there (account F).session (account G).session alike.3 in
         subst HasFewJobs (sym it.3)
-        (omega (arith, ap length it.4.jobs, listed F may it.0 it.2));
+        (omega (arith, ap length (same_jobs it.0 it.1 it.4), listed F may it.0 it.2));
     going_on = ap (λ s. elim s [ Open ↦ true | Ended ↦ false | Faulty line cause ↦ false ]) (alike.2 ∙ opened F may);
     whole = sym whole ∙ may.whole;
   }
@@ -177,23 +163,29 @@ module _ (F G : List ℕ) (alike : Alike (account F) (account G)) (whole : rest_
   -- with the same snapshot
   snapshot_same : (may : MayPause F) → snapshot G ≡ snapshot F
   snapshot_same may =
-      let it = both_there (account F).session (account G).session alike.3 in
-      let kept : Holds it.0 (account F).mark (account F).lines = holds F may it.0 it.2 in
-      let state : (settled_state (instance_of it.1) (account G).mark).tasks
-      ≡ (settled_state (instance_of it.0) (account F).mark).tasks =
-      ap (λ m. (settled_state (instance_of it.1) m).tasks) alike.1
-      ∙ ap (λ (s : State). s.tasks) (state_same it.0 it.1 (account F).mark it.4) in
-      snapshot_is G (may_pause may) it.1 it.3
-      ∙ ap in_lines (ap (λ r. lines_from r (admitted_jobs it.1.items)
-      (settled_state (instance_of it.1) (account G).mark).tasks (account G).lines (account G).mark) it.4.rules
-      ∙ ap (λ js. lines_from it.0.rules js (settled_state (instance_of it.1) (account G).mark).tasks (account G).lines
-      (account G).mark) it.4.jobs
-      ∙ ap (λ ts. lines_from it.0.rules (admitted_jobs it.0.items) ts (account G).lines (account G).mark) state
-      ∙ ap (λ n. lines_from it.0.rules (admitted_jobs it.0.items)
-      (settled_state (instance_of it.0) (account F).mark).tasks n (account G).mark) alike.0
-      ∙ ap (λ m. lines_from it.0.rules (admitted_jobs it.0.items)
-      (settled_state (instance_of it.0) (account F).mark).tasks (account F).lines m) alike.1)
-      ∙ sym (snapshot_is F may it.0 it.2)
+      let (S, T, first, other, same) = both_there (account F).session (account G).session alike.3 in
+      let text : Declaration → List JobFacts → List Item → List Task → ℕ → ℕ → List ℕ =
+      λ rules jobs items tasks lines mark. in_lines (head_line
+      (record { rules = rules; lines = lines; mark = mark; jobs = length jobs })
+      ∷ stored_lines items tasks ++ codes "resume" ∷ []) in
+      let tasks : ℕ → Session → List Task = λ m X. (settled_state (instance_of X) m).tasks in
+      snapshot_is G (may_pause may) T other
+      ∙ ap (λ ls. in_lines (head_line (head_of_feed (account G) T) ∷ ls ++ codes "resume" ∷ []))
+      (sym (lines_kept T.items (tasks (account G).mark T)))
+      ∙ ap (λ r. text r (admitted_jobs T.items) (kept T.items) (tasks (account G).mark T) (account G).lines
+      (account G).mark) same.rules
+      ∙ ap (λ js. text S.rules js (kept T.items) (tasks (account G).mark T) (account G).lines (account G).mark)
+      (same_jobs S T same)
+      ∙ ap (λ is. text S.rules (admitted_jobs S.items) is (tasks (account G).mark T) (account G).lines
+      (account G).mark) same.items
+      ∙ ap (λ (s : State). text S.rules (admitted_jobs S.items) (kept S.items) s.tasks (account G).lines
+      (account G).mark) (state_same S T (account G).mark same)
+      ∙ ap (λ n. text S.rules (admitted_jobs S.items) (kept S.items) (tasks (account G).mark S) n (account G).mark)
+      alike.0
+      ∙ ap (λ m. text S.rules (admitted_jobs S.items) (kept S.items) (tasks m S) (account F).lines m) alike.1
+      ∙ ap (λ ls. in_lines (head_line (head_of_feed (account F) S) ∷ ls ++ codes "resume" ∷ []))
+      (lines_kept S.items (tasks (account F).mark S))
+      ∙ sym (snapshot_is F may S first)
 
 -- ---- how feeds with the same snapshot go on
 

@@ -1,23 +1,29 @@
 -- What the answer to the line of a job says of the job.
-use Rattle.std.proofs.Common.{◌≡◌, ℕ, ◌+◌, List, [], ◌∷◌, ◌++◌, length, length-append, refl, sym, ap, ◌∙◌, subst, inl}
-use Rattle.std.proofs.Common.{inr, Bool, true, false, cond, arith, Option, Some, None, Ok, Err, IsSome, is_some, fold}
-use Rattle.std.proofs.lemmas.List.{map-append}
+use Rattle.std.proofs.Common.{◌≡◌, ℕ, suc, ◌+◌, List, [], ◌∷◌, ◌++◌, length, length-append, refl, sym, ap, ◌∙◌, subst}
+use Rattle.std.proofs.Common.{inl, inr, Bool, true, false, cond, arith, Option, Some, None, Ok, Err, IsSome, is_some}
+use Rattle.std.proofs.Common.{fold}
+use Rattle.std.specs.List.{AllByRecursion}
+use Rattle.std.proofs.lemmas.List.Elements.{filter_map-append}
 use Rattle.std.proofs.lemmas.List.Sums.{fold-append}
-use Rattle.dover_model.specs.declared.events.Task.{Task}
-use Rattle.dover_model.specs.Common.{JobFacts, IsJob, job_numbers, job_of_numbers, IsValid, AreShort, Session}
-use Rattle.dover_model.specs.Common.{RefusedJob, admitted_jobs, refuses_lines, jobs_of, JobLine, feed_text, Account}
-use Rattle.dover_model.specs.Common.{Open, Faulty, NotAdmitted, next_line, no_lines, account_of_lines}
-use Rattle.dover_model.specs.Common.{with_line, with_fault, with_refused_at, refused_mark, is_full, instance_of}
+use Rattle.dover_model.specs.Common.{JobFacts, IsJob, job_numbers, job_of_numbers, AreShort, Session, Item, JobItem}
+use Rattle.dover_model.specs.Common.{RefusedJob, IsValidSession, job_of_item, admitted_jobs, refuses_lines, mark_after}
+use Rattle.dover_model.specs.Common.{JobLine, feed_text, Account, Open, Faulty, NotAdmitted, later_line_cause}
+use Rattle.dover_model.specs.Common.{next_line, no_lines, account_of_lines, with_line, with_fault, with_refused_at}
+use Rattle.dover_model.specs.Common.{refused_mark, is_full, instance_of}
 use Rattle.dover_model.specs.Feed as model
-use Rattle.dover_model.proofs.sessions.Fullness.{few_ready}
-use Rattle.dover_model.proofs.runs.Honest.{count_jobs}
 use Rattle.dover_model.proofs.lists.Members.{some_same, all_last}
 use Rattle.dover_model.proofs.lists.Tests.{never}
+use Rattle.dover_model.proofs.sessions.Accounts.{IsKept, lines_goes}
+use Rattle.dover_model.proofs.sessions.Fullness.{few_ready}
+use Rattle.dover_model.proofs.sessions.Growing.{job_instance, refused_instance}
+use Rattle.dover_model.proofs.sessions.SessionParts.{session_jobs}
+use Rattle.dover_model.proofs.texts.FeedLines.{feed_line-feed_text}
 use Rattle.dover_model.proofs.valid.ValidParts.{valid_parts}
 use Rattle.event_feed.proofs.Accepting.{offer_room, offer_accepted}
+use Rattle.event_feed.proofs.DoneLines.{done_session, done_jobs}
 use Rattle.event_feed.proofs.Listing.{job_after}
-use Rattle.dover_model.proofs.sessions.Growing.{job_instance, refused_instance}
-use Rattle.dover_model.proofs.sessions.JobSessions.{jobs_back}
+use Rattle.event_feed.proofs.Taking.{is_going}
+use Rattle.event_feed.specs.Reading.{open_account}
 use Rattle.event_feed.specs.declared.fed.Fed.{Fed}
 use Rattle.event_feed.specs.declared.fed.Fed.TheVariants as fed
 use Rattle.event_feed.specs.declared.faults.FeedFault.{FeedFault}
@@ -26,14 +32,13 @@ use Rattle.event_feed.specs.Kept as feed
 use Rattle.event_feed.specs.declared.intake.Standing.TheVariants as standings
 use Rattle.event_feed.specs.declared.intake.Standing as standing
 use Rattle.event_feed.specs.declared.kept_session.KeptSession.{KeptSession}
-use Rattle.event_feed.proofs.Taking.{is_going}
 use Rattle.snapshot.specs.Snapshot.{Head}
-use Rattle.snapshot.specs.Reading.{declared_jobs}
-use Rattle.snapshot.specs.Stored.{ratio_text, job_lines, jobs_session, jobs_account}
-use Rattle.event_feed.proofs.DoneLines.{done_session, done_jobs}
+use Rattle.snapshot.specs.Reading.{stored}
+use Rattle.snapshot.specs.Stored.{NoneRefused, fed_lines, fed_account}
 use Rattle.snapshot.specs.Kept.{IsFed, HasRoom, job_in}
-use Rattle.snapshot.proofs.Admitted.{job_cause, no_cause_valid, valid_no_cause, jobs_more, with_this}
-use Rattle.snapshot.proofs.Handing.{counted_account, job_read, job_adds}
+use Rattle.snapshot.proofs.Accounted.{fed_is, lines_more, good_more, kept_session}
+use Rattle.snapshot.proofs.ItemLines.{line_read}
+use Rattle.snapshot.proofs.Reached.{holds_open}
 
 -- ---- an intake that goes on
 
@@ -117,156 +122,178 @@ cause_adds_none a j _ = refl
 
 -- ---- the line of a job
 
-module _ (h : Head) (tasks : List Task) (t : Task) (i : feed.Kept) (it : IsFed i h tasks) (room : HasRoom h tasks)
-    (short : AreShort (job_numbers t.job)) where
+module _ (h : Head) (items : List Item) (i : feed.Kept) (it : IsFed i h items) (room : HasRoom h items) (j : JobFacts)
+    (short : AreShort (job_numbers j)) where
+  abbrev S : Session
+  S = stored h items
+
   -- the line
   abbrev line : List ℕ
-  line = feed_text (JobLine t.job)
+  line = feed_text (JobLine j)
+
+  -- the lines before it
+  abbrev ls : List (List ℕ)
+  ls = fed_lines h items
+
+  so_far : account_of_lines ls ≡ fed_account h items
+  so_far = fed_is h items room.valid room.good (omega (arith, room.lines))
+
+  -- the cause of the line
+  abbrev cause : Option model.Cause
+  cause = later_line_cause S (mark_after 0 items) (JobLine j)
+
+  -- the account in which it is counted
+  abbrev counted_in : Account
+  counted_in = open_account (suc (length items + 1)) (Some S) (mark_after 0 items)
 
   -- the account with it, by the cause
-  with_cause : account_of_lines (job_lines h tasks ++ line ∷ [])
-      ≡ with_line (counted_account h tasks t) (JobLine t.job) (job_cause h tasks t)
-  with_cause = fold-append next_line no_lines (job_lines h tasks) (line ∷ []) ∙ ap (λ a. next_line a line) it.account
-      ∙ job_read h tasks t short room.1
-
-  -- the lines with it
-  lines_more : job_lines h tasks ++ line ∷ [] ≡ job_lines h (tasks ++ t ∷ [])
-  lines_more = ap (λ ls. ratio_text h ∷ ls) (sym (map-append (λ (u : Task). feed_text (JobLine u.job)) tasks (t ∷ [])))
+  with_cause : account_of_lines (ls ++ line ∷ []) ≡ with_line counted_in (JobLine j) cause
+  with_cause = fold-append next_line no_lines ls (line ∷ []) ∙ ap (λ a. next_line a line) so_far
+      ∙ line_read S (length items + 1) (mark_after 0 items) (omega (arith, room.lines)) (JobLine j)
+      (feed_line-feed_text (JobLine j) short)
 
   -- the jobs before it
-  counts : count (account_of_lines (job_lines h tasks)) ≡ length (jobs_of tasks)
-  counts = ap count it.account ∙ ap length (jobs_back (jobs_of tasks))
+  counts : count (account_of_lines ls) ≡ length (admitted_jobs items)
+  counts = ap count so_far
 
   -- with a cause they are as many
-  cause_counts : (cause : model.Cause) → job_cause h tasks t ≡ Some cause
-      → count (account_of_lines (job_lines h tasks ++ line ∷ [])) ≡ length (jobs_of tasks)
-  cause_counts cause is = ap count (with_cause ∙ ap (with_line (counted_account h tasks t) (JobLine t.job)) is)
-      ∙ cause_adds_none (counted_account h tasks t) t.job cause ∙ ap length (jobs_back (jobs_of tasks))
+  cause_counts : (c : model.Cause) → cause ≡ Some c
+      → count (account_of_lines (ls ++ line ∷ [])) ≡ length (admitted_jobs items)
+  cause_counts c is = ap count (with_cause ∙ ap (with_line counted_in (JobLine j)) is) ∙ cause_adds_none counted_in j c
 
-  -- without one it is added
-  none_account : job_cause h tasks t ≡ None
-      → account_of_lines (job_lines h tasks ++ line ∷ []) ≡ jobs_account h (tasks ++ t ∷ [])
-  none_account none = with_cause ∙ ap (with_line (counted_account h tasks t) (JobLine t.job)) none ∙ job_adds h tasks t
+  -- the items with it
+  abbrev more : List Item
+  more = items ++ JobItem j ∷ []
 
-  -- then they are one more
-  none_counts : job_cause h tasks t ≡ None
-      → count (account_of_lines (job_lines h tasks ++ line ∷ [])) ≡ length (jobs_of tasks) + 1
-  none_counts none = ap count (none_account none) ∙ ap length (jobs_back (jobs_of (tasks ++ t ∷ [])))
-      ∙ ap length (jobs_more tasks t)
-      ∙ length-append (jobs_of tasks) (t.job ∷ [])
+  good_with : NoneRefused more
+  good_with = good_more items (JobItem j) room.good refl
 
-  -- where none is added, it isn't valid
-  pub not_valid : count (account_of_lines (job_lines h tasks ++ line ∷ [])) ≡ count
-      (account_of_lines (job_lines h tasks))
-      → IsValid (declared_jobs h (tasks ++ t ∷ [])) → ⊥
-  not_valid same valid = absurd (omega (arith, same, counts, none_counts (valid_no_cause h tasks t room.2 valid)))
+  -- where they are a valid session, they are one more
+  valid_counts : IsValidSession (stored h more)
+      → count (account_of_lines (ls ++ line ∷ [])) ≡ length (admitted_jobs items) + 1
+  valid_counts valid = ap (λ xs. count (account_of_lines xs)) (lines_more h items (JobItem j))
+      ∙ ap count (fed_is h more valid good_with (omega (arith, room.lines, length-append items (JobItem j ∷ []))))
+      ∙ ap length (filter_map-append job_of_item items (JobItem j ∷ []))
+      ∙ length-append (admitted_jobs items) (j ∷ [])
+
+  -- where none is added, they aren't
+  pub not_valid : count (account_of_lines (ls ++ line ∷ [])) ≡ count (account_of_lines ls)
+      → IsValidSession (stored h more) → ⊥
+  not_valid same valid = absurd (omega (arith, same, counts, valid_counts valid))
 
   -- the answer to it
   abbrev Says : Fed → Type 0
-  Says answer = Answers line (account_of_lines (job_lines h tasks)) (account_of_lines (job_lines h tasks ++ line ∷ []))
-      (Ok answer)
+  Says answer = Answers line (account_of_lines ls) (account_of_lines (ls ++ line ∷ [])) (Ok answer)
 
-  -- an answer with no job says that it isn't valid
-  no_job : (answer : Fed) → job_in answer ≡ None → Says answer → IsValid (declared_jobs h (tasks ++ t ∷ [])) → ⊥
-  no_job answer none said =
-      not_valid (none_added line (account_of_lines (job_lines h tasks)) _ (jobs_session h tasks) answer
-      (ap (λ a. a.session) it.account) none said.1)
+  -- an answer with no job says that they aren't valid
+  no_job : (answer : Fed) → job_in answer ≡ None → Says answer → IsValidSession (stored h more) → ⊥
+  no_job answer none said = not_valid (none_added line (account_of_lines ls) _ S answer (ap (λ a. a.session) so_far)
+      none said.1)
 
   -- so does a fault
   pub no_fault : (fault : FeedFault)
-      → Answers line (account_of_lines (job_lines h tasks)) (account_of_lines (job_lines h tasks ++ line ∷ []))
-      (Err fault)
-      → IsValid (declared_jobs h (tasks ++ t ∷ [])) → ⊥
-  no_fault fault said = not_valid (none_at_fault line (account_of_lines (job_lines h tasks)) _ fault said)
+      → Answers line (account_of_lines ls) (account_of_lines (ls ++ line ∷ [])) (Err fault)
+      → IsValidSession (stored h more) → ⊥
+  no_fault fault said = not_valid (none_at_fault line (account_of_lines ls) _ fault said)
 
-  -- the job is valid, there is room for it, and once it is accepted its line was handed in
+  -- they are valid, there is room for the job, and once it is accepted its line was handed in
   pub record Offers (offers : feed.Kept) : Type 0 where
-    pub valid : IsValid (declared_jobs h (tasks ++ t ∷ []))
-    pub has_room : feed.HasRoom offers t.job
-    pub fed : (after : feed.Kept) → feed.Accepts t.job offers after → IsFed after h (tasks ++ t ∷ [])
+    pub valid : IsValidSession (stored h more)
+    pub has_room : feed.HasRoom offers j
+    pub fed : (after : feed.Kept) → feed.Accepts j offers after → IsFed after h more
 
   -- an answer with a job
   module _ (n : ℕ) (job : JobFacts) (said : Says (fed.Job n job)) where
-    adds : AddsJob n job (counted (account_of_lines (job_lines h tasks)))
-        (account_of_lines (job_lines h tasks ++ line ∷ []))
+    adds : AddsJob n job (counted (account_of_lines ls)) (account_of_lines (ls ++ line ∷ []))
     adds = said.1
 
-    session_is : adds.session ≡ jobs_session h tasks
-    session_is = some_same adds.session (jobs_session h tasks)
-        (sym adds.before_is ∙ ap (λ (x : Account). x.session) it.account)
+    session_is : adds.session ≡ S
+    session_is = some_same adds.session S (sym adds.before_is ∙ ap (λ (x : Account). x.session) so_far)
 
     room_here : is_full (instance_of adds.session) job.release ≡ false
     room_here = few_ready (instance_of adds.session) job.release (omega (
       arith,
-      room.2,
-      ap (λ (S : Session). length (admitted_jobs S.items)) session_is,
-      ap length (jobs_back (jobs_of tasks)),
-      count_jobs tasks,
+      room.few,
+      ap (λ (T : Session). length (admitted_jobs T.items)) session_is,
     ))
 
-    jobs_after : jobs_in_session (account_of_lines (job_lines h tasks ++ line ∷ [])).session
+    jobs_after : jobs_in_session (account_of_lines (ls ++ line ∷ [])).session
         ≡ admitted_jobs adds.session.items ++ job ∷ []
     jobs_after = ap (λ (x : Account). jobs_in_session x.session)
-        (job_after (counted (account_of_lines (job_lines h tasks))) _ n job adds room_here)
+        (job_after (counted (account_of_lines ls)) _ n job adds room_here)
         ∙ ap (λ J. J.jobs) (job_instance adds.session job)
 
     -- the line has no cause
-    no_cause : job_cause h tasks t ≡ None
-    no_cause = by_cause (job_cause h tasks t) refl where
-      by_cause : (o : Option model.Cause) → job_cause h tasks t ≡ o → job_cause h tasks t ≡ None
-      by_cause (Some cause) is = absurd (omega (
+    no_cause : cause ≡ None
+    no_cause = by_cause cause refl where
+      by_cause : (o : Option model.Cause) → cause ≡ o → cause ≡ None
+      by_cause (Some c) is = absurd (omega (
         arith,
-        cause_counts cause is,
-        counts,
-        ap (λ o. length (jobs_in_session o)) adds.before_is,
+        cause_counts c is,
+        ap (λ (T : Session). length (admitted_jobs T.items)) session_is,
         ap length jobs_after,
         length-append (admitted_jobs adds.session.items) (job ∷ []),
       ))
       by_cause None none = none
 
+    -- so the session has it
+    account_is : account_of_lines (ls ++ line ∷ [])
+        ≡ open_account (suc (length items + 1)) (Some (stored h more)) j.release
+    account_is = with_cause ∙ ap (with_line counted_in (JobLine j)) no_cause
+
     -- the job is the line's
-    same_job : job ≡ t.job
-    same_job = same_last (admitted_jobs adds.session.items) (jobs_of tasks) job t.job
-        (sym jobs_after ∙ ap (λ (x : Account). jobs_in_session x.session) (none_account no_cause)
-        ∙ jobs_back (jobs_of (tasks ++ t ∷ [])) ∙ jobs_more tasks t)
+    same_job : job ≡ j
+    same_job = same_last (admitted_jobs adds.session.items) (admitted_jobs items) job j
+        (sym jobs_after ∙ ap (λ (x : Account). jobs_in_session x.session) account_is
+        ∙ filter_map-append job_of_item items (JobItem j ∷ []))
+
+    kept : IsKept (account_of_lines (ls ++ line ∷ []))
+    kept = (lines_goes (ls ++ line ∷ []) no_lines zero_mark).0 where
+      zero_mark : no_lines.mark ≡ 0
+      zero_mark = refl
 
     -- it is valid, there is room for it, and once it is accepted its line was handed in
     job_offered : (offers : feed.Kept)
-        → feed.StandsBehind {E = FeedFault} (Ok (fed.Job n job)) offers (job_lines h tasks) line → Offers offers
+        → feed.StandsBehind {E = FeedFault} (Ok (fed.Job n job)) offers ls line → Offers offers
     job_offered offers stands = record {
-      valid = no_cause_valid h tasks t room.2 room.0 no_cause;
-      has_room = subst (feed.HasRoom offers) same_job (offer_room (account_of_lines (job_lines h tasks))
-          (account_of_lines (job_lines h tasks ++ line ∷ [])) n job adds offers stands);
+      valid = kept_session h more _ _ (holds_open (account_of_lines (ls ++ line ∷ [])) (stored h more) kept
+          (ap (λ (x : Account). x.standing) account_is) (ap (λ (x : Account). x.session) account_is)) good_with
+          (omega (
+            arith,
+            room.few,
+            ap length (filter_map-append job_of_item items (JobItem j ∷ [])),
+            length-append (admitted_jobs items) (j ∷ []),
+          ));
+      has_room = subst (feed.HasRoom offers) same_job (offer_room (account_of_lines ls)
+          (account_of_lines (ls ++ line ∷ [])) n job adds offers stands);
       fed = λ after accepts.
-          let now : feed.StandsFor after (job_lines h tasks ++ line ∷ []) = record {
-            by_account = offer_accepted (account_of_lines (job_lines h tasks))
-                (account_of_lines (job_lines h tasks ++ line ∷ [])) n job adds offers stands after
-                (subst (λ j. feed.Accepts j offers after) (sym same_job) accepts) room_here;
+          let now : feed.StandsFor after (ls ++ line ∷ []) = record {
+            by_account = offer_accepted (account_of_lines ls) (account_of_lines (ls ++ line ∷ [])) n job adds offers
+                stands after (subst (λ x. feed.Accepts x offers after) (sym same_job) accepts) room_here;
           } in record {
-            stands = subst (feed.StandsFor after) lines_more now;
-            account = ap account_of_lines (sym lines_more) ∙ none_account no_cause;
-            going = goes_on after (job_lines h tasks ++ line ∷ []) (jobs_session h (tasks ++ t ∷ [])) now
-                (ap (λ (x : Account). x.standing) (none_account no_cause))
-                (ap (λ (x : Account). x.session) (none_account no_cause));
+            stands = subst (feed.StandsFor after) (lines_more h items (JobItem j)) now;
+            going = goes_on after (ls ++ line ∷ []) (stored h more) now
+                (ap (λ (x : Account). x.standing) account_is) (ap (λ (x : Account). x.session) account_is);
           };
     }
 
   -- so says any answer that offers a job
   pub offered : (answer : Fed) (offers : feed.Kept) → is_some (job_in answer) ≡ true
-      → feed.StandsBehind {E = FeedFault} (Ok answer) offers (job_lines h tasks) line → Says answer → Offers offers
+      → feed.StandsBehind {E = FeedFault} (Ok answer) offers ls line → Says answer → Offers offers
   offered (fed.Job n job) offers some stands said = job_offered n job said offers stands
   offered _ offers some stands said = never some
 
-  -- an answer that offers none says that it isn't valid
+  -- an answer that offers none says that they aren't valid
   pub none_offered : (answer : Fed) → is_some (job_in answer) ≡ false → Says answer
-      → IsValid (declared_jobs h (tasks ++ t ∷ [])) → ⊥
+      → IsValidSession (stored h more) → ⊥
   none_offered answer none said = no_job answer (by (job_in answer) none) said where
     by : (o : Option JobFacts) → is_some o ≡ false → o ≡ None
     by None n = refl
-    by (Some j) n = absurd (let clash : true ≡ false = n in cc)
+    by (Some x) n = absurd (let clash : true ≡ false = n in cc)
 
 -- numbers of which no job can be made aren't valid
-pub none_made : (h : Head) (tasks : List Task) (t : Task) → (IsJob t.job → ⊥)
-    → IsValid (declared_jobs h (tasks ++ t ∷ [])) → ⊥
-none_made h tasks t none valid = none (all_last IsJob (declared_jobs h tasks).jobs t.job
-    (valid_parts (subst IsValid (with_this h tasks t) valid)).each)
+pub none_made : (h : Head) (items : List Item) (j : JobFacts) → (IsJob j → ⊥)
+    → IsValidSession (stored h (items ++ JobItem j ∷ [])) → ⊥
+none_made h items j none valid = none (all_last IsJob (admitted_jobs items) j
+    (subst (AllByRecursion IsJob) (filter_map-append job_of_item items (JobItem j ∷ []))
+    (valid_parts (session_jobs valid)).each))

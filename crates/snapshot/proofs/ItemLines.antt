@@ -7,7 +7,7 @@ use Rattle.dover_model.specs.Common.{refusal_of, refusal_in, Item, JobItem, Refu
 use Rattle.dover_model.specs.Common.{mark_after, EarlyFinish, admitted_jobs, instance_of, session_with, with_item}
 use Rattle.dover_model.specs.Common.{with_named, may_finish_early, early_at, finish_at, is_right, FeedLine, JobLine}
 use Rattle.dover_model.specs.Common.{DoneLine, feed_line, feed_text, Account, Lines, Line, Order, NotAdmitted, NotDone}
-use Rattle.dover_model.specs.Common.{late_cause, with_fault, with_line, cause_of, next_line}
+use Rattle.dover_model.specs.Common.{HasNumerals, late_cause, with_fault, with_line, cause_of, next_line}
 use Rattle.std.specs.Bool.{then_some}
 use Rattle.std.specs.Option.{option_or}
 use Rattle.dover_model.specs.declared.events.Refusal.TheVariants.{Full}
@@ -21,12 +21,26 @@ use Rattle.dover_model.proofs.rest.Resting.{numbers_below}
 use Rattle.dover_model.proofs.lists.Tests.{none_is_some}
 use Rattle.event_feed.specs.Reading.{open_account}
 use Rattle.event_feed.proofs.Counting.{after_form}
-use Rattle.snapshot.specs.Kept.{item_lines}
+use Rattle.snapshot.specs.Stored.{NoneRefused, item_lines}
 use Rattle.snapshot.proofs.Came.{front_valid}
 use Rattle.event_feed.proofs.Saying.{job_numerals}
-use Rattle.snapshot.proofs.RunItems.{NoneRefused}
 use Rattle.dover_model.proofs.sessions.SessionParts.{MayBeAdmitted, FollowsItems}
 use Rattle.dover_model.proofs.valid.ValidParts.{valid_parts}
+
+-- the line of a finish that is right has numerals
+pub finish_numerals : (S : Session) (f : EarlyFinish) → IsValid (instance_of S) → f.at ≤ last_tick_in S.rules.version
+    → early_at S f.at f.finish.number ≡ Some f → HasNumerals (DoneLine f.at f.finish.number)
+finish_numerals S f valid known right = (
+  omega (arith, known, tick_most S.rules.version),
+  (omega (arith, number, (valid_parts valid).count, jobs_most S.rules.version), tt),
+) where
+  says : Finishes S f
+  says = finishing_job S f right
+
+  number : f.finish.number < length (instance_of S).jobs
+  number = subst (λ m. m < length (instance_of S).jobs) (sym (ap (λ (g : Finish). g.number) says.is))
+      (numbers_below (instance_of S) _ (settled_at_barrier (instance_of S) valid f.at).keeps says.job
+      says.runs.member)
 
 module _ (S : Session) (lines mark : ℕ) (few : suc lines ≤ most_lines S.rules.version) where
   -- the account in which a line is counted
@@ -34,9 +48,10 @@ module _ (S : Session) (lines mark : ℕ) (few : suc lines ≤ most_lines S.rule
   a = open_account (suc lines) (Some S) mark
 
   -- a line with numerals is read
-  read : (line : FeedLine) → feed_line (feed_text line) ≡ Some line
+  pub line_read : (line : FeedLine) → feed_line (feed_text line) ≡ Some line
       → next_line (open_account lines (Some S) mark) (feed_text line) ≡ with_line a line (cause_of a line)
-  read line back = ap (λ b. cond b (with_fault a Lines) (after_form a (feed_line (feed_text line)))) (le-ltb _ _ few)
+  line_read line back = ap (λ b. cond b (with_fault a Lines) (after_form a (feed_line (feed_text line))))
+      (le-ltb _ _ few)
       ∙ ap (after_form a) back
 
   -- the line of a job that is valid behind the others
@@ -44,7 +59,7 @@ module _ (S : Session) (lines mark : ℕ) (few : suc lines ≤ most_lines S.rule
       → next_line (open_account lines (Some S) mark) (feed_text (JobLine j))
       ≡ open_account (suc lines) (Some (with_item S (JobItem j))) j.release
   job_item_account j may valid =
-      read (JobLine j) (feed_line-feed_text (JobLine j) (job_numerals j (all_last IsJob
+      line_read (JobLine j) (feed_line-feed_text (JobLine j) (job_numerals j (all_last IsJob
       (instance_of S).jobs j (valid_parts valid).each)))
       ∙ ap (with_line a (JobLine j)) none where
         none : cause_of a (JobLine j) ≡ None
@@ -61,14 +76,7 @@ module _ (S : Session) (lines mark : ℕ) (few : suc lines ≤ most_lines S.rule
       → next_line (open_account lines (Some S) mark) (feed_text (DoneLine f.at f.finish.number))
       ≡ open_account (suc lines) (Some (with_item S (FinishItem f))) f.at
   finish_item_account f valid ordered known right =
-      read line (feed_line-feed_text line (
-        omega (arith, known, tick_most S.rules.version),
-        (
-          omega
-              (arith, number, (valid_parts valid).count, jobs_most S.rules.version),
-          tt,
-        ),
-      ))
+      line_read line (feed_line-feed_text line (finish_numerals S f valid known right))
       ∙ ap (with_line a line) none
       ∙ ap (λ o. open_account (suc lines) (Some (with_named S (option_map FinishItem o))) f.at) right where
         n : ℕ
@@ -76,14 +84,6 @@ module _ (S : Session) (lines mark : ℕ) (few : suc lines ≤ most_lines S.rule
 
         line : FeedLine
         line = DoneLine f.at n
-
-        says : Finishes S f
-        says = finishing_job S f right
-
-        number : n < length (instance_of S).jobs
-        number = subst (λ m. m < length (instance_of S).jobs) (sym (ap (λ (g : Finish). g.number) says.is))
-            (numbers_below (instance_of S) _ (settled_at_barrier (instance_of S) valid f.at).keeps says.job
-            says.runs.member)
 
         three : (b : Bool) → cond b (finish_at (instance_of S) f.at n) None ≡ Some f
             → b ≡ true

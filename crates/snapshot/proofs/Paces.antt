@@ -1,14 +1,12 @@
--- How a run goes on from a state to the barrier of a mark: no job has more ticks than pass, and jobs that are over stay
--- so.
-use Rattle.std.proofs.Common.{◌≡◌, ℕ, ◌+◌, ◌≤◌, ◌<◌, List, [], ◌∷◌, ◌++◌, refl, sym, ◌∙◌, subst, arith}
-use Rattle.std.proofs.Common.{Bool, true, false, cond, eqb}
+-- How a run goes on from a state to the barrier of a mark: jobs that are over stay so.
+use Rattle.std.proofs.Common.{◌≡◌, ℕ, ◌≤◌, ◌<◌, List, [], ◌∷◌, ◌++◌, refl, sym, ◌∙◌, subst, arith}
+use Rattle.std.proofs.Common.{ap}
+use Rattle.std.proofs.lemmas.List.Elements.{filter_map-append}
 use Rattle.dover_model.specs.declared.events.Event.{Event}
-use Rattle.dover_model.specs.declared.events.Role.TheVariants.{Waiting}
-use Rattle.dover_model.specs.declared.events.Task.{Task}
 use Rattle.dover_model.specs.Common.{Finish, JobFacts, Instance, IsValid, IsOpenPath, HasPrinted, Step, settled}
-use Rattle.dover_model.specs.Common.{settled_steps, settled_state, AreOverFor, Each, Keeps, State, opening, is_running}
-use Rattle.dover_model.specs.Common.{Move, Prints, Waits, Ticks, open_step, after, with_role, role_after, ticked}
-use Rattle.dover_model.specs.Common.{IsBarrier}
+use Rattle.dover_model.specs.Common.{settled_steps, settled_state, AreOverFor, Each, Keeps, State, opening}
+use Rattle.dover_model.specs.Common.{open_step, after}
+use Rattle.dover_model.specs.Common.{IsBarrier, printed_of}
 use Rattle.dover_model.proofs.runs.Ending.{potential}
 use Rattle.dover_model.proofs.steps.Kept.{Moved, move_of, open_kept, opening_keeps}
 use Rattle.dover_model.proofs.lists.Members.{on_map}
@@ -21,19 +19,22 @@ use Rattle.dover_model.proofs.settled.Settling.{Settles, settles, settled_is_run
 
 -- ---- the way to the barrier
 
--- steps from a state to the barrier
-pub record GoesOn (J : Instance) (mark : ℕ) (s : State) : Type 0 where
+-- steps from a state, up to which these events were printed, to the barrier
+pub record GoesOn (J : Instance) (mark : ℕ) (s : State) (events : List Event) : Type 0 where
   pub steps : List Step
   pub path : IsOpenPath J.rules mark s steps (settled_state J mark)
   pub keeps : Keeps J s
+  pub prints : settled J mark ≡ events ++ printed_of steps
 
 -- from each state before the barrier
 pub goes_on : (J : Instance) → IsValid J → (mark : ℕ) (s : State) (events : List Event) → HasPrinted J mark s events
-    → GoesOn J mark s
+    → GoesOn J mark s events
 goes_on J valid mark s events it = record {
   steps = rest.0;
   path = subst (IsOpenPath J.rules mark s rest.0) (sym there) way.1;
   keeps = keeps;
+  prints = ap printed_of same_steps ∙ filter_map-append _ it.steps rest.0
+      ∙ ap (λ es. es ++ printed_of rest.0) it.prints;
 } where
   keeps : Keeps J s
   keeps = path_keeps J valid mark it.steps (opening J.jobs) s (opening_keeps J) it.path
@@ -72,32 +73,6 @@ printed_later J valid mark later ordered = record {
       × IsBarrier J.rules mark t
   there = settled_path J.rules mark (settled_steps J mark) (opening J.jobs) (settled_is_run J mark valid)
 
--- ---- what a job has had
-
--- the job of this number has had less than so many ticks, of which it had so many at this clock, if it ran since
-abbrev pub HasLess : (number had clock : ℕ) → State → Type 0
-HasLess n h k s = Each (λ t. t.number ≡ n → t.had + k < h + s.clock) s.tasks
-
--- so it is after a step
-pub less_after : (n h k : ℕ) (s : State) (m : Move) → HasLess n h k s → HasLess n h k (after s m)
-less_after n h k s (Prints e) less =
-    on_map (λ t. with_role t (role_after e t.number t.role))
-    (λ t. t.number ≡ n → t.had + k < h + s.clock) s.tasks less
-less_after n h k s (Waits m) less = on_map (λ t. with_role t (cond (eqb t.number m) Waiting t.role))
-    (λ t. t.number ≡ n → t.had + k < h + s.clock) s.tasks less
-less_after n h k s Ticks less = on_map ticked (λ t. t.number ≡ n → t.had + k < h + (s.clock + 1)) s.tasks
-    (λ t member same. by t (is_running t) (less t member same)) where
-      by : (t : Task) (b : Bool) → t.had + k < h + s.clock → cond b (t.had + 1) t.had + k < h + (s.clock + 1)
-      by t true low = omega arith
-      by t false low = omega arith
-
--- and at the end of a path
-pub less_on : (J : Instance) (mark n h k : ℕ) (xs : List Step) (s t : State) → IsOpenPath J.rules mark s xs t
-    → HasLess n h k s → HasLess n h k t
-less_on J mark n h k [] s t here less = subst (HasLess n h k) (sym here) less
-less_on J mark n h k (x ∷ xs) s t path less =
-    less_on J mark n h k xs (after s (open_step J.rules s)) t path.2 (less_after n h k s (open_step J.rules s) less)
-
 -- ---- jobs that are over
 
 -- the job of the finish is over, and has had as much, which is less than its work
@@ -130,12 +105,5 @@ come_on J valid mark f (x ∷ xs) s t keeps path it = come_on J valid mark f xs 
 pub comes : (J : Instance) → IsValid J → (mark : ℕ) (s : State) (events : List Event) → HasPrinted J mark s events
     → (f : Finish) → HasCome f s → HasCome f (settled_state J mark)
 comes J valid mark s events it f come =
-    let way : GoesOn J mark s = goes_on J valid mark s events it in
+    let way : GoesOn J mark s events = goes_on J valid mark s events it in
     come_on J valid mark f way.steps s (settled_state J mark) way.keeps way.path come
-
--- the same of what a job has had less of
-pub stays_less : (J : Instance) → IsValid J → (mark : ℕ) (s : State) (events : List Event) → HasPrinted J mark s events
-    → (n h k : ℕ) → HasLess n h k s → HasLess n h k (settled_state J mark)
-stays_less J valid mark s events it n h k less =
-    let way : GoesOn J mark s = goes_on J valid mark s events it in
-    less_on J mark n h k way.steps s (settled_state J mark) way.path less

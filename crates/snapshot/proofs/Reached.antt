@@ -14,7 +14,7 @@ use Rattle.std.specs.Option.{option_map_or}
 use Rattle.dover_model.specs.declared.events.Version.{Version}
 use Rattle.dover_model.specs.declared.events.Version.TheVariants.{One}
 use Rattle.dover_model.specs.declared.events.Refusal.{Refusal}
-use Rattle.dover_model.proofs.sessions.Accounts.{account_with, mark_behind}
+use Rattle.dover_model.proofs.sessions.Accounts.{Holds, HoldsBy, HoldsOpen, IsKept, account_with, mark_behind}
 use Rattle.dover_model.proofs.sessions.Growing.{early_says}
 use Rattle.event_feed.proofs.Counting.{after_form}
 
@@ -281,3 +281,15 @@ pub few_open : (a : Account) (S : Session) → HasFew a → a.standing ≡ Open 
     → a.lines ≤ most_lines S.rules.version
 few_open a S it opened there =
     subst (λ o. FewBy Open o a.lines) there (subst (λ s. FewBy s a.session a.lines) opened it)
+
+-- what an account keeps that goes on
+pub holds_open : (a : Account) (S : Session) → IsKept a → a.standing ≡ Open → a.session ≡ Some S
+    → Holds S a.mark a.lines
+holds_open a S kept opened there =
+    subst (λ o. HoldsOpen o a.mark a.lines) there (subst (λ s. HoldsBy s a.session a.mark a.lines) opened kept)
+
+-- how its mark was reached
+pub reaches_open : (a : Account) (S : Session) → Reaches a → a.standing ≡ Open → a.session ≡ Some S
+    → Reached S.items a.mark a.lines
+reaches_open a S it opened there =
+    subst (λ o. ReachesBy Open o a.mark a.lines) there (subst (λ s. ReachesBy s a.session a.mark a.lines) opened it)

@@ -9,8 +9,8 @@ use Rattle.snapshot.specs.Reading.{Reading, Begun, Going, Taken, Refused, readin
 -- 0 for a whole snapshot, the number of the first refused line, or none where lines are missing
 abbrev outcome : Reading → Option ℕ
 outcome Begun = None
-outcome (Going h tasks) = None
-outcome (Taken h tasks) = Some 0
+outcome (Going h items tasks) = None
+outcome (Taken h items tasks) = Some 0
 outcome (Refused line) = Some line
 
 -- the same of a text
@@ -74,21 +74,33 @@ no_version_five : answer (codes "snapshot 5 1 1 1 0 0/resume/") ≡ Some 1
 unfolding digits
 no_version_five = refl
 
--- a job that is done with work left finished early, for which there is a line
-early : answer (codes "snapshot 3 1 1 3 1 1/state 0 done 1 0 4 10 4/resume/") ≡ Some 0
+-- a job that is done with work left has the line of its finish
+early : answer (codes "snapshot 3 1 1 3 1 1/state 0 done 1 0 4 10 4/done 1 0/resume/") ≡ Some 0
 unfolding digits
 early = refl
 
-no_line_for_the_finish : answer (codes "snapshot 3 1 1 2 1 1/state 0 done 1 0 4 10 4/resume/") ≡ Some 3
+no_finish : answer (codes "snapshot 3 1 1 3 1 1/state 0 done 1 0 4 10 4/resume/") ≡ Some 3
+unfolding digits
+no_finish = refl
+
+wrong_finish : answer (codes "snapshot 3 1 1 3 1 1/state 0 done 1 0 4 10 4/done 0 0/resume/") ≡ Some 3
+unfolding digits
+wrong_finish = refl
+
+finish_behind_the_mark : answer (codes "snapshot 3 1 1 3 1 1/state 0 done 2 0 4 10 4/done 2 0/resume/") ≡ Some 3
+unfolding digits
+finish_behind_the_mark = refl
+
+no_line_for_the_finish : answer (codes "snapshot 3 1 1 2 1 1/state 0 done 1 0 4 10 4/done 1 0/resume/") ≡ Some 4
 unfolding digits
 no_line_for_the_finish = refl
 
 -- no line is left that could have moved the mark behind the finish
-nothing_moved_the_mark_on : answer (codes "snapshot 3 1 1 3 2 1/state 0 done 1 0 4 10 4/resume/") ≡ Some 3
+nothing_moved_the_mark_on : answer (codes "snapshot 3 1 1 3 2 1/state 0 done 1 0 4 10 4/done 1 0/resume/") ≡ Some 4
 unfolding digits
 nothing_moved_the_mark_on = refl
 
-none_early_in_two : answer (codes "snapshot 2 1 1 3 1 1/state 0 done 1 0 4 10 4/resume/") ≡ Some 3
+none_early_in_two : answer (codes "snapshot 2 1 1 3 1 1/state 0 done 1 0 4 10 4/done 1 0/resume/") ≡ Some 3
 unfolding digits
 none_early_in_two = refl
 

@@ -1,49 +1,14 @@
--- What a run hands in, and that it is what each session of the same run hands in whose lines are not refused.
-use Rattle.std.proofs.Common.{◌≡◌, ◌⊎◌, ℕ, ◌≤◌, max, inl, inr, List, [], ◌∷◌, ◌++◌, length, map, append-nil, refl, sym}
-use Rattle.std.proofs.Common.{ap, ◌∙◌, subst, arith, Bool, true, false, cond, Some, None}
-use Rattle.dover_model.specs.Common.{Finish, Declaration, Instance, IsValid, under, declared_by, most_items, most_ready}
-use Rattle.dover_model.specs.Common.{in_lines, run, printed, Item, JobItem, RefusedItem, FinishItem, Session}
+-- A session without its refused lines, which has the same run.
+use Rattle.std.proofs.Common.{◌≡◌, ℕ, ◌≤◌, max, inl, inr, List, [], ◌∷◌, ◌++◌, length, map, append-nil, refl, sym}
+use Rattle.std.proofs.Common.{ap, ◌∙◌, subst, arith, cond, None}
+use Rattle.dover_model.specs.Common.{Declaration, IsValid, under, most_items}
+use Rattle.dover_model.specs.Common.{Item, JobItem, RefusedItem, FinishItem, Session}
 use Rattle.dover_model.specs.Common.{IsValidSession, IsDeclarable, admitted_jobs, early_finishes, refused_of_item}
 use Rattle.dover_model.specs.Common.{instance_of, session_with, may_finish_early, finish_at, is_full, mark_after}
-use Rattle.dover_model.specs.Common.{IsMember, Each, State, opening, running, Move, Prints, header}
-use Rattle.dover_model.specs.Common.{Placed, Printed, handed_by, session_of, session_of_run, places_after, put_in}
-use Rattle.dover_model.specs.Common.{text_of_line, trace_of_session}
-use Rattle.dover_model.specs.declared.events.Event.TheVariants.{Release, Complete}
-use Rattle.dover_model.proofs.finishes.EarlyEnds.{shown_own}
-use Rattle.dover_model.proofs.runs.Ending.{run_is_whole}
-use Rattle.dover_model.proofs.sessions.Former.{none_early}
-use Rattle.dover_model.proofs.sessions.JobSessions.{session_of_valid, jobs_never}
-use Rattle.dover_model.proofs.steps.Kept.{opening_keeps}
-use Rattle.dover_model.proofs.finishes.Meeting.{given_by}
-use Rattle.dover_model.proofs.traces.Named.{same_trace}
-use Rattle.dover_model.proofs.sessions.NeverFull.{few_never}
-use Rattle.dover_model.proofs.sessions.RunSessions.{run_jobs, run_session_valid, same_printed, whole_of}
-use Rattle.dover_model.proofs.steps.Shown.{Shows, early_says}
+use Rattle.dover_model.specs.Common.{places_after}
 use Rattle.dover_model.proofs.lists.Tests.{none_is_some}
-use Rattle.dover_model.proofs.sessions.SessionParts.{FollowsItems, session_from, session_declared, session_jobs}
-
--- no refused line stands among the items
-abbrev pub NoneRefused : List Item → Type 0
-NoneRefused items = Each (λ i. refused_of_item i ≡ None) items
-
--- ---- what a run hands in
-
--- what a step shows is no refused line
-step_good : (s : State) (m : Move) (i : Item) → handed_by (record { before = s; move = m }) ≡ Some i
-    → refused_of_item i ≡ None
-step_good s (Prints (Release n j)) i e = by i e where
-  by : (i : Item) → Some (JobItem j) ≡ Some i → refused_of_item i ≡ None
-  by (RefusedItem r) e = absurd (cc)
-  by _ e = refl
-step_good s (Prints (Complete at n)) i e = by i (early_says s.clock (running s) i e) where
-  by : (i : Item) → Shows s.clock (running s) i → refused_of_item i ≡ None
-  by (RefusedItem r) says = absurd (let clash = says.shown in cc)
-  by _ says = refl
-step_good s _ i e = none_is_some e
-
--- so none is among what a run hands in
-pub run_good : (J : Instance) → NoneRefused (session_of_run J).items
-run_good J i member = let it = given_by handed_by (run J) i member in step_good it.0.before it.0.move i it.2
+use Rattle.dover_model.proofs.sessions.SessionParts.{FollowsItems, session_from}
+use Rattle.snapshot.specs.Stored.{NoneRefused}
 
 -- items of which none is refused and none is a finish are the jobs
 pub jobs_only : (items : List Item) → NoneRefused items → early_finishes items ≡ []
@@ -53,32 +18,6 @@ jobs_only (JobItem j ∷ items) good none =
     ap (λ is. JobItem j ∷ is) (jobs_only items (λ i m. good i (inr m)) none)
 jobs_only (RefusedItem r ∷ items) good none = none_is_some (sym (good (RefusedItem r) (inl refl)))
 jobs_only (FinishItem f ∷ items) good none = absurd (let clash : f.finish ∷ early_finishes items ≡ [] = none in cc)
-
-module _ (J : Instance) (valid : IsValid J) where
-  -- the finishes that a run hands in are its own
-  pub run_own : Each (λ f. IsMember f J.rules.finishes) (early_finishes (session_of_run J).items)
-  run_own =
-      shown_own J valid (run J) (whole_of J valid (run J) (opening J.jobs) (opening_keeps J) (run_is_whole J valid))
-
-  -- where no job finishes early it hands in the jobs
-  run_plain : J.rules.finishes ≡ [] → session_of_run J ≡ session_of J
-  run_plain plain = ap (λ items. session_with (declared_by J.rules) items)
-      (jobs_only (session_of_run J).items (run_good J) (none_there (early_finishes (session_of_run J).items) own)
-      ∙ ap (map JobItem) (run_jobs J valid)) where
-        own : Each (λ f. ⊥) (early_finishes (session_of_run J).items)
-        own f member = subst (IsMember f) plain (run_own f member)
-
-        none_there : (fs : List Finish) → Each (λ f. ⊥) fs → fs ≡ []
-        none_there [] none = refl
-        none_there (f ∷ fs) none = absurd (none f (inl refl))
-
-  -- what it hands in is a valid session
-  pub run_valid : IsDeclarable (declared_by J.rules) → length J.jobs ≤ most_ready
-      → (may_finish_early J.rules.version ≡ true) ⊎ (J.rules.finishes ≡ []) → IsValidSession (session_of_run J)
-  run_valid declared few (inl three) = run_session_valid J valid three
-      (few_never (session_of_run J) (omega (arith, few, ap length (run_jobs J valid))))
-  run_valid declared few (inr plain) =
-      subst IsValidSession (sym (run_plain plain)) (session_of_valid J plain valid declared (jobs_never J few))
 
 -- ---- a session without its refused lines
 
@@ -93,7 +32,7 @@ abbrev pub kept : List Item → List Item
 kept [] = []
 kept (i ∷ items) = kept_one i (kept items)
 
-kept_append : (items more : List Item) → kept (items ++ more) ≡ kept items ++ kept more
+pub kept_append : (items more : List Item) → kept (items ++ more) ≡ kept items ++ kept more
 kept_append [] more = refl
 kept_append (JobItem j ∷ items) more = ap (λ is. JobItem j ∷ is) (kept_append items more)
 kept_append (RefusedItem r ∷ items) more = kept_append items more
@@ -164,8 +103,6 @@ kept_follows rules before mark low (FinishItem f ∷ items) below follows = (
       (omega (arith, below)) follows.1),
 )
 
--- ---- sessions without refused lines are those of their runs
-
 -- a refused line alone has a place
 pub no_places : (rules : Declaration) (before items : List Item) → NoneRefused items → places_after rules before items
     ≡ []
@@ -176,24 +113,6 @@ no_places rules before (RefusedItem r ∷ items) good = none_is_some (sym (good 
 no_places rules before (FinishItem f ∷ items) good =
     no_places rules (before ++ FinishItem f ∷ []) items (λ i m. good i (inr m))
 
--- so the trace is that of the printed steps
-good_trace : (S : Session) → NoneRefused S.items
-    → trace_of_session S ≡ in_lines (header S.rules ∷ map text_of_line (map Printed (printed (instance_of S))))
-good_trace S good = ap (λ (ps : List Placed). in_lines (header S.rules ∷ map text_of_line
-    (put_in ps 0 (printed (instance_of S))))) (no_places S.rules [] S.items good)
-
-module _ (S : Session) (valid : IsValidSession S) (good : NoneRefused S.items)
-    (may : (may_finish_early S.rules.version ≡ true) ⊎ (early_finishes S.items ≡ []))
-    (modest : length (admitted_jobs S.items) ≤ most_ready) where
-  -- it is what its run hands in
-  pub good_is_run : S ≡ session_of_run (instance_of S)
-  good_is_run = same_trace S (session_of_run (instance_of S)) valid
-      (run_valid (instance_of S) (session_jobs valid) (session_declared valid) modest may)
-      (good_trace S good
-      ∙ ap (λ es. in_lines (header S.rules ∷ map text_of_line (map Printed es))) (sym (same_printed
-      (instance_of S) (session_jobs valid)))
-      ∙ sym (good_trace (session_of_run (instance_of S)) (run_good (instance_of S))))
-
 -- the mark behind the items that are kept isn't above that behind all
 pub kept_mark : (mark low : ℕ) (items : List Item) → low ≤ mark → mark_after low (kept items) ≤ mark_after mark items
 kept_mark mark low [] below = below
@@ -203,27 +122,15 @@ kept_mark mark low (RefusedItem r ∷ items) below = kept_mark (max mark r.at) l
 kept_mark mark low (FinishItem f ∷ items) below = kept_mark (max mark f.at) (max low f.at) items (omega (arith, below))
 
 module _ (S : Session) (declared : IsDeclarable S.rules) (valid : IsValid (instance_of S))
-    (follows : FollowsItems S.rules [] 0 S.items) (few : length (kept S.items) ≤ most_items S.rules.version)
-    (modest : length (admitted_jobs S.items) ≤ most_ready) where
+    (follows : FollowsItems S.rules [] 0 S.items) (few : length (kept S.items) ≤ most_items S.rules.version) where
   -- without its refused lines
   abbrev pub kept_session : Session
   kept_session = session_with S.rules (kept S.items)
 
-  kept_valid : IsValidSession kept_session
+  pub kept_valid : IsValidSession kept_session
   kept_valid = session_from (record {
     declared = declared;
     jobs = subst IsValid (sym (kept_instance S.rules S.items)) valid;
     count = few;
     items = kept_follows S.rules [] 0 0 S.items (omega arith) follows;
   })
-
-  may_finish : (b : Bool) → may_finish_early S.rules.version ≡ b
-      → (may_finish_early S.rules.version ≡ true) ⊎ (early_finishes (kept S.items) ≡ [])
-  may_finish true three = inl three
-  may_finish false plain = inr (kept_early S.items ∙ none_early S.rules [] 0 S.items plain follows)
-
-  -- a session without its refused lines is what its run hands in
-  pub kept_is_run : kept_session ≡ session_of_run (instance_of S)
-  kept_is_run = good_is_run kept_session kept_valid (kept_good S.items)
-      (may_finish (may_finish_early S.rules.version) refl) (omega (arith, modest, ap length (kept_jobs S.items)))
-      ∙ ap session_of_run (kept_instance S.rules S.items)

@@ -28,7 +28,11 @@ use Rattle.dover_model.proofs.texts.Fields.{numerals-decimals, decimals-numerals
 use Rattle.snapshot.specs.Snapshot.{Head, head_numbers, head_line, IsHead, role_word, state_line, IsStored}
 use Rattle.snapshot.specs.Snapshot.{state_numbers, IsState}
 use Rattle.snapshot.specs.Reading.{rules_from, head_with, head_from, read_head, role_of_word, task_from, task_of_fields}
-use Rattle.snapshot.specs.Reading.{read_task}
+use Rattle.snapshot.specs.Reading.{read_task, done_of, read_done}
+use Rattle.snapshot.specs.Snapshot.{done_line}
+use Rattle.dover_model.specs.Common.{HasNumerals, FeedLine, DoneLine, feed_line}
+use Rattle.dover_model.proofs.texts.FeedLines.{feed_line-feed_text, feed_text-feed_line}
+use Rattle.std.proofs.Common.{get_or}
 use Rattle.dover_model.proofs.texts.TraceLines.{version_back, version_from}
 
 -- ---- a word and numbers
@@ -336,3 +340,27 @@ state_line-read_task line t = by (is_too_long line) (fields_of line) refl where
       let it = fields_read word number role fields t read in
       (it.0 ∙ ap line_of (sym cut) ∙ line_of-fields_of line, it.1)
   by _ _ cut read = none_is_some read
+
+-- ---- the line of an early finish
+
+-- what is written is read as the same
+pub read_done-done_line : (at n : ℕ) → HasNumerals (DoneLine at n) → read_done (done_line at n) ≡ Some (at, n)
+read_done-done_line at n short = ap (option_and_then done_of) (feed_line-feed_text (DoneLine at n) short)
+
+-- and what is read was written so
+pub done_line-read_done : (line : List ℕ) (at n : ℕ) → read_done line ≡ Some (at, n) → done_line at n ≡ line
+done_line-read_done line at n read = by (feed_line line) refl read where
+  by : (o : Option FeedLine) → feed_line line ≡ o → option_and_then done_of o ≡ Some (at, n) → done_line at n ≡ line
+  by None e is = none_is_some is
+  by (Some (DoneLine t m)) e is =
+      let pair : (t, m) ≡ (at, n) = some_same (t, m) (at, n) is in
+      ap (λ (p : ℕ × ℕ). done_line p.0 p.1) (sym pair) ∙ feed_text-feed_line line (DoneLine t m) e
+  by (Some line) e is = none_is_some is
+
+-- a line of another first letter is none
+pub not_done : (line : List ℕ) (n : ℕ) → get_or line 0 0 ≡ n → (n ≡ 100 → ⊥) → read_done line ≡ None
+not_done line n first other = by (read_done line) refl where
+  by : (o : Option (ℕ × ℕ)) → read_done line ≡ o → o ≡ None
+  by None e = refl
+  by (Some done) e = absurd (other (sym first
+      ∙ sym (ap (λ l. get_or l 0 0) (done_line-read_done line done.0 done.1 e))))

@@ -1,48 +1,49 @@
--- A feed that may pause has a snapshot that is read to its end, with its head and its jobs.
-use Rattle.std.proofs.Common.{◌≡◌, ◌⊎◌, inl, inr, ℕ, suc, ◌+◌, ◌≤◌, ◌<◌, List, [], ◌∷◌, ◌++◌, length, length-append}
-use Rattle.std.proofs.Common.{append_assoc, append-nil, map, refl, sym, ap, ◌∙◌, subst, Bool, true, false, ◌&&◌, ◌||◌}
-use Rattle.std.proofs.Common.{arith, Some, codes, nat_le, nat_lt, ◌==◌, le-leb, lt-ltb, eq-eqb, leb-true, leb-false}
+-- A feed that may pause has a snapshot that is read to its end, with its head, what it handed in and its jobs.
+use Rattle.std.proofs.Common.{◌≡◌, ◌⊎◌, inl, inr, ℕ, suc, ◌+◌, ◌≤◌, ◌<◌, List, [], ◌∷◌, ◌++◌, length}
+use Rattle.std.proofs.Common.{length-append, append_assoc, append-nil, map, refl, sym, ap, ◌∙◌, subst, Bool, true}
+use Rattle.std.proofs.Common.{false}
+use Rattle.std.proofs.Common.{◌&&◌, ◌||◌, arith, codes, nat_le, nat_lt, le-leb, lt-ltb}
+use Rattle.std.proofs.Common.{eq-eqb, leb-true, leb-false}
 use Rattle.std.specs.List.{AllByRecursion}
 use Rattle.std.proofs.lemmas.Bool.{and_from}
-use Rattle.std.proofs.lemmas.List.{map-append}
-use Rattle.dover_model.specs.Common.{last_tick, last_tick_in, most_jobs, most_lines, most_items, IsJob, Instance, under}
-use Rattle.dover_model.specs.Common.{IsValid, is_valid, Item, JobItem, Session, instance_of, admitted_jobs, mark_after}
-use Rattle.dover_model.specs.Common.{session_with, settled_state, IsMember, IsNumberedFrom, jobs_of, State, Account}
-use Rattle.dover_model.specs.Common.{Open}
+use Rattle.std.proofs.lemmas.List.Elements.{filter_map-append}
+use Rattle.dover_model.specs.Common.{last_tick, last_tick_in, most_jobs, most_lines, most_items, IsJob, JobFacts}
+use Rattle.dover_model.specs.Common.{Instance}
+use Rattle.dover_model.specs.Common.{IsValid, Item, JobItem, RefusedItem, FinishItem, EarlyFinish, Session, instance_of}
+use Rattle.dover_model.specs.Common.{IsValidSession, admitted_jobs, job_of_item, mark_after, session_with}
+use Rattle.dover_model.specs.Common.{settled_state, IsMember, IsNumberedFrom, jobs_of}
 use Rattle.dover_model.specs.declared.events.Role.{Role}
 use Rattle.dover_model.specs.declared.events.Role.TheVariants.{Coming, Fresh}
 use Rattle.dover_model.specs.declared.events.Task.{Task}
 use Rattle.dover_model.specs.declared.events.Version.TheVariants.{Two}
-use Rattle.dover_model.proofs.finishes.Meeting.{finishing_valid}
-use Rattle.dover_model.proofs.sessions.Accounts.{Holds, HoldsBy, HoldsOpen, IsKept}
+use Rattle.dover_model.proofs.sessions.Accounts.{Holds}
 use Rattle.dover_model.proofs.settled.Barriers.{AtBarrier, settled_at_barrier}
 use Rattle.dover_model.proofs.runs.Honest.{numbers_low, count_jobs}
 use Rattle.dover_model.proofs.steps.Kept.{each_job}
 use Rattle.dover_model.proofs.valid.Limiting.{lines_most, tick_most}
 use Rattle.dover_model.proofs.texts.NoFeeds.{header_short}
-use Rattle.dover_model.proofs.valid.Valid.{valid_front}
-use Rattle.snapshot.specs.Snapshot.{Head, IsHead, IsStored, IsState, head_line, state_line}
-use Rattle.snapshot.specs.Reading.{Taken, is_within_limits, declared_jobs, stored, stored_session, may_follow}
-use Rattle.snapshot.specs.Reading.{has_lines_for, has_reached_mark, is_settled, reading_of}
-use Rattle.snapshot.specs.Stored.{HasRead}
-use Rattle.snapshot.specs.Kept.{IsWhole, stance_of}
-use Rattle.snapshot.proofs.Comparing.{all_alike}
-use Rattle.ready_server.proofs.Present.{none_to_come}
-use Rattle.snapshot.proofs.Reached.{Reached, Reaches, ReachesBy}
-use Rattle.snapshot.proofs.Counts.{good_count}
-use Rattle.snapshot.proofs.RunItems.{kept, kept_good, kept_few, kept_all, kept_mark, kept_is_run, kept_jobs}
-use Rattle.snapshot.proofs.RunItems.{kept_instance, kept_follows}
-use Rattle.snapshot.proofs.Same.{stored_run, stored_state}
-use Rattle.snapshot.proofs.Spelled.{read_head-head_line, read_task-state_line}
-use Rattle.snapshot.proofs.Storing.{head_stands, task_stands, last_stands}
+use Rattle.dover_model.proofs.lists.Tests.{none_is_some}
+use Rattle.dover_model.proofs.sessions.SessionParts.{session_jobs}
 use Rattle.dover_model.proofs.valid.ValidParts.{valid_parts}
 use Rattle.dover_model.proofs.valid.JobLimits.{job_limits}
-
--- as many items as jobs at least
-pub jobs_least : (items : List Item) → length (admitted_jobs items) ≤ length items
-jobs_least [] = omega arith
-jobs_least (JobItem j ∷ items) = omega (arith, jobs_least items)
-jobs_least (_ ∷ items) = omega (arith, jobs_least items)
+use Rattle.snapshot.specs.Snapshot.{Head, IsHead, IsStored, IsState, head_line, state_line, done_line, stored_lines}
+use Rattle.snapshot.specs.Reading.{Taken, is_within_limits, stored, has_lines_for, is_settled}
+use Rattle.snapshot.specs.Reading.{reading_of}
+use Rattle.snapshot.specs.Stored.{HasRead, NoneRefused}
+use Rattle.snapshot.specs.Kept.{IsWhole, stance_of}
+use Rattle.snapshot.proofs.Accounted.{front_session, more_follows}
+use Rattle.snapshot.proofs.Comparing.{all_alike}
+use Rattle.ready_server.proofs.Present.{none_to_come}
+use Rattle.snapshot.proofs.Reached.{Reached}
+use Rattle.snapshot.proofs.Counts.{good_count}
+use Rattle.snapshot.proofs.ItemLines.{finish_numerals}
+use Rattle.snapshot.proofs.Marks.{mark_front, jobs_least}
+use Rattle.snapshot.proofs.RunItems.{kept, kept_good, kept_few, kept_all, kept_mark, kept_jobs, kept_instance}
+use Rattle.snapshot.proofs.RunItems.{kept_follows}
+use Rattle.snapshot.proofs.RunItems.{kept_valid}
+use Rattle.snapshot.proofs.Spelled.{read_head-head_line, read_task-state_line, read_done-done_line, not_done}
+use Rattle.snapshot.proofs.Storing.{head_stands, task_stands, finish_stands, last_stands, stands_from, lines_job}
+use Rattle.snapshot.proofs.Storing.{lines_finish}
 
 -- the number of a job is how many stand before it
 numbered_at : (n : ℕ) (front : List Task) (t : Task) (back : List Task) → IsNumberedFrom n (front ++ t ∷ back)
@@ -55,6 +56,24 @@ in_middle : (front : List Task) (t : Task) (back : List Task) → IsMember t (fr
 in_middle [] t back = inl refl
 in_middle (u ∷ front) t back = inr (in_middle front t back)
 
+-- items that stand at one place of a list
+same_place : (xs : List Task) (t : Task) (ys : List Task) (us : List JobFacts) (j : JobFacts) (vs : List JobFacts)
+    → length xs ≡ length us → jobs_of (xs ++ t ∷ ys) ≡ us ++ j ∷ vs → t.job ≡ j
+same_place [] t ys [] j vs long same = let e : t.job ∷ jobs_of ys ≡ j ∷ vs = same in cc
+same_place [] t ys (u ∷ us) j vs long same = absurd (omega (arith, long))
+same_place (x ∷ xs) t ys [] j vs long same = absurd (omega (arith, long))
+same_place (x ∷ xs) t ys (u ∷ us) j vs long same =
+    same_place xs t ys us j vs (omega (arith, long))
+    (let e : x.job ∷ jobs_of (xs ++ t ∷ ys) ≡ u ∷ (us ++ j ∷ vs) = same in cc)
+
+-- the lines of what isn't refused are those of all
+pub lines_kept : (items : List Item) (tasks : List Task) → stored_lines (kept items) tasks ≡ stored_lines items tasks
+lines_kept [] tasks = refl
+lines_kept (JobItem j ∷ items) [] = lines_kept items []
+lines_kept (JobItem j ∷ items) (t ∷ tasks) = ap (λ ls. state_line t ∷ ls) (lines_kept items tasks)
+lines_kept (RefusedItem r ∷ items) tasks = lines_kept items tasks
+lines_kept (FinishItem f ∷ items) tasks = ap (λ ls. done_line f.at f.finish.number ∷ ls) (lines_kept items tasks)
+
 module _ (S : Session) (mark lines : ℕ) (holds : Holds S mark lines) (few : lines ≤ most_lines S.rules.version)
     (listed : length (admitted_jobs S.items) ≤ most_jobs Two) (reached : Reached S.items mark lines)
   where
@@ -65,6 +84,10 @@ module _ (S : Session) (mark lines : ℕ) (holds : Holds S mark lines) (few : li
     -- the state in which it pauses
     abbrev tasks : List Task
     tasks = (settled_state J mark).tasks
+
+    -- what it handed in, but for what was refused
+    abbrev items : List Item
+    items = kept S.items
 
     -- its first line
     abbrev h : Head
@@ -140,76 +163,137 @@ module _ (S : Session) (mark lines : ℕ) (holds : Holds S mark lines) (few : li
         ab : Bool
         ab = nat_le mark (last_tick_in S.rules.version) && nat_le (length J.jobs) (most_jobs Two)
 
-    module _ (front : List Task) (t : Task) (back : List Task) (split : front ++ t ∷ back ≡ tasks) where
-      -- the jobs up to this one are the first of the feed's
-      valid_up_to : IsValid (declared_jobs h (front ++ t ∷ []))
-      valid_up_to = valid_front (declared_jobs h (front ++ t ∷ [])) (jobs_of back)
-          (subst (λ jobs. IsValid (record { rules = under S.rules []; jobs = jobs })) (sym jobs)
-          (finishing_valid J [] holds.reads.valid)) where
-            jobs : jobs_of (front ++ t ∷ []) ++ jobs_of back ≡ J.jobs
-            jobs = sym (map-append (λ (u : Task). u.job) (front ++ t ∷ []) back)
-                ∙ ap jobs_of (append_assoc front (t ∷ []) back) ∙ ap jobs_of split ∙ jobs_same
+    good : NoneRefused items
+    good = kept_good S.items
+
+    jobs_kept : admitted_jobs items ≡ J.jobs
+    jobs_kept = kept_jobs S.items
+
+    -- the items that aren't refused are few
+    kept_count : length items ≤ most_items S.rules.version
+    kept_count = good_count (session_with S.rules items)
+        (subst IsValid (sym (kept_instance S.rules S.items)) holds.reads.valid)
+        (kept_follows S.rules [] 0 0 S.items (omega arith) holds.follows) good
+        (omega (arith, ap length jobs_kept, jobs_few))
+
+    valid : IsValidSession (stored h items)
+    valid = kept_valid S holds.declared holds.reads.valid holds.follows kept_count
+
+    known : mark_after 0 items ≤ mark
+    known = omega (arith, kept_mark 0 0 S.items (omega arith), holds.last)
+
+    module _ (front back : List Item) (split : front ++ back ≡ items) where
+      -- the first of them are a valid session
+      valid_front : IsValidSession (stored h front)
+      valid_front = front_session h front back (subst (λ is. IsValidSession (stored h is)) (sym split) valid)
+
+      low_front : mark_after 0 front ≤ mark
+      low_front = omega (arith, mark_front 0 front back, ap (mark_after 0) split, known)
+
+    module _ (front : List Item) (j : JobFacts) (back : List Item) (split : front ++ JobItem j ∷ back ≡ items)
+        (before : List Task) (t : Task) (after : List Task) (parted : before ++ t ∷ after ≡ tasks)
+        (long : length (admitted_jobs front) ≡ length before)
+        (it : HasRead h front before (head_line h ∷ stored_lines front before)) where
+      next_split : (front ++ JobItem j ∷ []) ++ back ≡ items
+      next_split = append_assoc front (JobItem j ∷ []) back ∙ split
+
+      same_job : t.job ≡ j
+      same_job = same_place before t after (admitted_jobs front) j (admitted_jobs back) (sym long)
+          (ap jobs_of parted ∙ jobs_same ∙ sym jobs_kept ∙ ap admitted_jobs (sym split)
+          ∙ filter_map-append job_of_item front (JobItem j ∷ back))
 
       member : IsMember t tasks
-      member = subst (IsMember t) split (in_middle front t back)
+      member = subst (IsMember t) parted (in_middle before t after)
 
-      number : t.number ≡ length front
-      number = omega (arith, numbered_at 0 front t back (subst (IsNumberedFrom 0) (sym split) bar.keeps.sound.numbered))
+      number : t.number ≡ length before
+      number = omega (
+        arith,
+        numbered_at 0 before t after
+            (subst (IsNumberedFrom 0) (sym parted) bar.keeps.sound.numbered),
+      )
 
-      released : t.job.release ≤ mark
-      released = each_job (λ j. j.release ≤ mark) tasks
-          (subst (AllByRecursion (λ j. j.release ≤ mark)) (sym jobs_same) holds.reads.known) t member
+      more : length before < length J.jobs
+      more = omega (arith, count, ap length parted, length-append before (t ∷ after))
 
-      follows : may_follow h front t ≡ true
-      follows = and_from ((t.number == length front) && is_valid (declared_jobs h (front ++ t ∷ [])))
-          (nat_le t.job.release mark)
-          (and_from (t.number == length front) (is_valid (declared_jobs h (front ++ t ∷ [])))
-          (eq-eqb t.number (length front) number)
-          valid_up_to.passes) (le-leb t.job.release mark released)
+      one_job : HasRead h (front ++ JobItem j ∷ []) (before ++ t ∷ [])
+          (head_line h ∷ stored_lines (front ++ JobItem j ∷ []) (before ++ t ∷ []))
+      one_job = subst (λ i. HasRead h (front ++ JobItem i ∷ []) (before ++ t ∷ [])
+          (head_line h ∷ stored_lines (front ++ JobItem i ∷ []) (before ++ t ∷ []))) same_job
+          (subst (λ ls. HasRead h (front ++ JobItem t.job ∷ []) (before ++ t ∷ []) (head_line h ∷ ls))
+          (sym (lines_job front before t long))
+          (task_stands h front before (head_line h ∷ stored_lines front before) it (state_line t)
+          (not_done (state_line t) 115 refl (omega arith)) more t (read_task-state_line t (is_state t member))
+          (and_from _ _ (eq-eqb t.number (length before) number)
+          (stands_from h front (JobItem t.job)
+          (subst (λ i. IsValidSession (stored h (front ++ JobItem i ∷ []))) (sym same_job)
+          (valid_front (front ++ JobItem j ∷ []) back next_split))
+          (subst (λ i. mark_after 0 (front ++ JobItem i ∷ []) ≤ mark) (sym same_job)
+          (low_front (front ++ JobItem j ∷ []) back next_split))))))
 
-      more : length front < length J.jobs
-      more = omega (arith, count, ap length split, length-append front (t ∷ back))
+    module _ (front : List Item) (f : EarlyFinish) (back : List Item) (split : front ++ FinishItem f ∷ back ≡ items)
+        (before : List Task) (it : HasRead h front before (head_line h ∷ stored_lines front before)) where
+      finish_split : (front ++ FinishItem f ∷ []) ++ back ≡ items
+      finish_split = append_assoc front (FinishItem f ∷ []) back ∙ split
 
-      one_more : HasRead h front (head_line h ∷ map state_line front)
-          → HasRead h (front ++ t ∷ []) (head_line h ∷ map state_line (front ++ t ∷ []))
-      one_more it = subst (λ ls. HasRead h (front ++ t ∷ []) (head_line h ∷ ls))
-          (sym (map-append state_line front (t ∷ [])))
-          (task_stands h front (head_line h ∷ map state_line front) it (state_line t) more t
-          (read_task-state_line t (is_state t member)) follows)
+      valid_with : IsValidSession (stored h (front ++ FinishItem f ∷ []))
+      valid_with = valid_front (front ++ FinishItem f ∷ []) back finish_split
 
-    all_read : (front back : List Task) → front ++ back ≡ tasks → HasRead h front (head_line h ∷ map state_line front)
-        → HasRead h tasks (head_line h ∷ map state_line tasks)
-    all_read front [] split it =
-        subst (λ ts. HasRead h ts (head_line h ∷ map state_line ts)) (sym (append-nil front) ∙ split) it
-    all_read front (t ∷ back) split it =
-        all_read (front ++ t ∷ []) back (append_assoc front (t ∷ []) back ∙ split) (one_more front t back split it)
+      one_finish : HasRead h (front ++ FinishItem f ∷ []) before
+          (head_line h ∷ stored_lines (front ++ FinishItem f ∷ []) before)
+      one_finish =
+          let says = (more_follows h front (FinishItem f ∷ []) valid_with).0 in
+          subst (λ ls. HasRead h (front ++ FinishItem f ∷ []) before (head_line h ∷ ls))
+          (sym (lines_finish front before f))
+          (finish_stands h front before (head_line h ∷ stored_lines front before) it
+          (done_line f.at f.finish.number) f.at f.finish.number
+          (read_done-done_line f.at f.finish.number (finish_numerals (stored h front) f
+          (session_jobs (valid_front front (FinishItem f ∷ back) split)) says.known says.right)) f says.right refl refl
+          (stands_from h front (FinishItem f) valid_with
+          (low_front (front ++ FinishItem f ∷ []) back finish_split)))
 
-    pub has_read : HasRead h tasks (head_line h ∷ map state_line tasks)
-    has_read = all_read [] tasks refl (head_stands (head_line h) h (read_head-head_line h is_head) within)
+    all_read : (front back : List Item) (before after : List Task) → front ++ back ≡ items → before ++ after ≡ tasks
+        → length (admitted_jobs front) ≡ length before → length (admitted_jobs back) ≡ length after
+        → NoneRefused back → HasRead h front before (head_line h ∷ stored_lines front before)
+        → HasRead h items tasks (head_line h ∷ stored_lines items tasks)
+    all_read front [] before [] split parted long left good it =
+        subst (λ is. HasRead h is tasks (head_line h ∷ stored_lines is tasks)) (sym (append-nil front) ∙ split)
+        (subst (λ ts. HasRead h front ts (head_line h ∷ stored_lines front ts)) (sym (append-nil before) ∙ parted) it)
+    all_read front [] before (t ∷ after) split parted long left good it = absurd (omega (arith, left))
+    all_read front (JobItem j ∷ back) before [] split parted long left good it = absurd (omega (arith, left))
+    all_read front (JobItem j ∷ back) before (t ∷ after) split parted long left good it =
+        all_read (front ++ JobItem j ∷ []) back (before ++ t ∷ []) after
+        (append_assoc front (JobItem j ∷ []) back ∙ split) (append_assoc before (t ∷ []) after ∙ parted)
+        (omega (
+          arith,
+          long,
+          ap length (filter_map-append job_of_item front (JobItem j ∷ [])),
+          length-append (admitted_jobs front) (j ∷ []),
+          length-append before (t ∷ []),
+        )) (omega (arith, left)) (λ i m. good i (inr m)) (one_job front j back split before t after parted long it)
+    all_read front (RefusedItem r ∷ back) before after split parted long left good it =
+        none_is_some (sym (good (RefusedItem r) (inl refl)))
+    all_read front (FinishItem f ∷ back) before after split parted long left good it =
+        all_read (front ++ FinishItem f ∷ []) back before after
+        (append_assoc front (FinishItem f ∷ []) back ∙ split) parted
+        (omega (
+          arith,
+          long,
+          ap length (filter_map-append job_of_item front (FinishItem f ∷ [])),
+          ap length (append-nil (admitted_jobs front)),
+        )) left (λ i m. good i (inr m)) (one_finish front f back split before it)
+
+    pub has_read : HasRead h items tasks (head_line h ∷ stored_lines items tasks)
+    has_read = all_read [] items [] tasks refl refl refl (omega (arith, ap length jobs_kept, count)) good
+        (head_stands (head_line h) h (read_head-head_line h is_head) within)
 
     -- ---- the last line
 
-    -- the items that aren't refused are few
-    kept_count : length (kept S.items) ≤ most_items S.rules.version
-    kept_count = good_count (session_with S.rules (kept S.items))
-        (subst IsValid (sym (kept_instance S.rules S.items)) holds.reads.valid)
-        (kept_follows S.rules [] 0 0 S.items (omega arith) holds.follows) (kept_good S.items)
-        (omega (arith, ap length (kept_jobs S.items), jobs_few))
-
-    -- what is stored of them hands in these
-    items_are : (stored_session h tasks).items ≡ kept S.items
-    items_are = ap (λ (T : Session). T.items) (stored_run S mark lines holds h refl
-        ∙ sym (kept_is_run S holds.declared holds.reads.valid holds.follows kept_count (omega (arith, jobs_few))))
-
-    pub reached_mark : has_reached_mark h tasks ≡ true
-    reached_mark = ap (has_lines_for h) items_are
-        ∙ and_from (nat_lt (length (kept S.items)) lines && nat_le (mark_after 0 (kept S.items)) mark) last
-        (and_from (nat_lt (length (kept S.items)) lines) (nat_le (mark_after 0 (kept S.items)) mark)
+    pub has_lines : has_lines_for h items ≡ true
+    has_lines = and_from (nat_lt (length items) lines) last
         (lt-ltb _ _ (omega (arith, kept_few S.items, reached.enough)))
-        (le-leb _ _ (omega (arith, kept_mark 0 0 S.items (omega arith), holds.last))))
-        (by (nat_le (length S.items) (length (kept S.items))) refl) where
+        (by (nat_le (length S.items) (length items)) refl) where
           last : Bool
-          last = nat_le mark (mark_after 0 (kept S.items)) || nat_lt (length (kept S.items) + 1) lines
+          last = nat_le mark (mark_after 0 items) || nat_lt (length items + 1) lines
 
           first : (a b : Bool) → a ≡ true → a || b ≡ true
           first true b e = refl
@@ -219,11 +303,11 @@ module _ (S : Session) (mark lines : ℕ) (holds : Holds S mark lines) (few : li
           either true b e = refl
           either false b e = e
 
-          by : (b : Bool) → nat_le (length S.items) (length (kept S.items)) ≡ b → last ≡ true
-          by false fewer = either (nat_le mark (mark_after 0 (kept S.items))) (nat_lt (length (kept S.items) + 1) lines)
+          by : (b : Bool) → nat_le (length S.items) (length items) ≡ b → last ≡ true
+          by false fewer = either (nat_le mark (mark_after 0 items)) (nat_lt (length items + 1) lines)
               (lt-ltb _ _ (omega (
                 arith,
-                leb-false (length S.items) (length (kept S.items)) fewer,
+                leb-false (length S.items) (length items) fewer,
                 reached.enough,
               )))
           by true all = by_way reached.by where
@@ -231,39 +315,26 @@ module _ (S : Session) (mark lines : ℕ) (holds : Holds S mark lines) (few : li
             same = kept_all S.items (leb-true _ _ all)
 
             by_way : (mark ≤ mark_after 0 S.items) ⊎ (length S.items + 1 < lines) → last ≡ true
-            by_way (inl low) = first (nat_le mark (mark_after 0 (kept S.items)))
-                (nat_lt (length (kept S.items) + 1) lines)
+            by_way (inl low) = first (nat_le mark (mark_after 0 items)) (nat_lt (length items + 1) lines)
                 (le-leb _ _ (omega (arith, low, ap (mark_after 0) same)))
-            by_way (inr more) = either (nat_le mark (mark_after 0 (kept S.items)))
-                (nat_lt (length (kept S.items) + 1) lines) (lt-ltb _ _ (omega (arith, more, ap length same)))
+            by_way (inr more) = either (nat_le mark (mark_after 0 items)) (nat_lt (length items + 1) lines)
+                (lt-ltb _ _ (omega (arith, more, ap length same)))
 
-    pub settled_here : is_settled h tasks ≡ true
-    settled_here = all_alike tasks (settled_state (stored h tasks) mark).tasks
-        (ap (λ (s : State). map stance_of s.tasks) (sym (stored_state S mark lines holds h refl mark)))
+    pub settled_here : is_settled h items tasks ≡ true
+    settled_here = all_alike tasks (settled_state (instance_of (stored h items)) mark).tasks
+        (ap (λ K. map stance_of (settled_state K mark).tasks) (sym (kept_instance S.rules S.items)))
 
-    pub taken : reading_of (head_line h ∷ map state_line tasks ++ codes "resume" ∷ []) ≡ Taken h tasks
-    taken = last_stands h tasks (head_line h ∷ map state_line tasks) has_read (codes "resume")
-        (omega (arith, count)) refl reached_mark settled_here
+    pub taken : reading_of (head_line h ∷ stored_lines items tasks ++ codes "resume" ∷ []) ≡ Taken h items tasks
+    taken = last_stands h items tasks (head_line h ∷ stored_lines items tasks) has_read (codes "resume")
+        (not_done (codes "resume") 114 refl (omega arith)) (omega (arith, count)) refl has_lines settled_here
 
-    pub whole : IsWhole h tasks (head_line h ∷ map state_line tasks ++ codes "resume" ∷ [])
+    pub whole : IsWhole h items tasks (head_line h ∷ stored_lines items tasks ++ codes "resume" ∷ [])
     whole = record {
-      front = head_line h ∷ map state_line tasks;
+      front = head_line h ∷ stored_lines items tasks;
       read = has_read;
       text = refl;
       reads = taken;
       all = count;
-      reached = reached_mark;
+      lines = has_lines;
       settled = settled_here;
     }
-
--- what an account keeps that goes on
-pub holds_open : (a : Account) (S : Session) → IsKept a → a.standing ≡ Open → a.session ≡ Some S
-    → Holds S a.mark a.lines
-holds_open a S kept opened there =
-    subst (λ o. HoldsOpen o a.mark a.lines) there (subst (λ s. HoldsBy s a.session a.mark a.lines) opened kept)
-
--- how its mark was reached
-pub reaches_open : (a : Account) (S : Session) → Reaches a → a.standing ≡ Open → a.session ≡ Some S
-    → Reached S.items a.mark a.lines
-reaches_open a S it opened there =
-    subst (λ o. ReachesBy Open o a.mark a.lines) there (subst (λ s. ReachesBy s a.session a.mark a.lines) opened it)

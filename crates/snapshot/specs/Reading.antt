@@ -1,18 +1,17 @@
 -- The lines of a snapshot as they are read, and which of them is the first that is refused.
 use Rattle.std.specs.Prelude.{ℕ, ◌+◌, List, [], ◌∷◌, ◌++◌, length, Bool, true, false, ◌&&◌, ◌||◌, ◌==◌, nat_lt, nat_le}
-use Rattle.std.specs.Prelude.{if◌then◌else◌, Option, Some, None, codes, bytes_eq, fold, find, filter_map}
+use Rattle.std.specs.Prelude.{if◌then◌else◌, Option, Some, None, codes, bytes_eq, fold, find}
 use Rattle.std.specs.Prelude.{option_and_then, option_map}
 use Rattle.std.specs.Bool.{then_some}
 use Rattle.dover_model.specs.declared.events.Role.{Role}
 use Rattle.dover_model.specs.declared.events.Role.TheVariants.{Waiting, Held, Running, Done, Gone}
 use Rattle.dover_model.specs.declared.events.Task.{Task}
 use Rattle.dover_model.specs.Common.{last_tick_in, most_jobs, most_lines, job_of_numbers, is_ratio, fraction}
-use Rattle.dover_model.specs.Common.{with_factor, Finish, Instance, Declaration, under, finishing, is_valid, Item}
-use Rattle.dover_model.specs.Common.{Session, may_finish_early, mark_after, is_done, session_of_run, factor_rules}
+use Rattle.dover_model.specs.Common.{with_factor, Declaration, Item, JobItem, FinishItem, Session, EarlyFinish}
+use Rattle.dover_model.specs.Common.{session_with, early_at, is_valid_session, mark_after, instance_of, factor_rules}
 use Rattle.dover_model.specs.Common.{numerals, is_too_long, fields_of, numbers_of, version_of_number, settled_state}
-use Rattle.dover_model.specs.Common.{finish_now, jobs_of}
+use Rattle.dover_model.specs.Common.{FeedLine, DoneLine, feed_line}
 use Rattle.snapshot.specs.Snapshot.{Head, role_word}
-use Rattle.dover_model.specs.declared.events.Version.{Version}
 use Rattle.dover_model.specs.declared.events.Version.TheVariants.{Two}
 
 -- ---- the forms of its lines
@@ -61,6 +60,15 @@ task_of_fields _ = None
 abbrev pub read_task : List ℕ → Option Task
 read_task line = if is_too_long line then None else task_of_fields (fields_of line)
 
+-- the tick and the number of a done line
+abbrev pub done_of : FeedLine → Option (ℕ × ℕ)
+done_of (DoneLine at number) = Some (at, number)
+done_of _ = None
+
+-- what the line of an early finish spells, if it does
+abbrev pub read_done : List ℕ → Option (ℕ × ℕ)
+read_done line = option_and_then done_of (feed_line line)
+
 -- ---- what is tested
 
 -- Mark and counts are within the limits, and there are lines for the ratio and for each job. A snapshot has no more
@@ -69,44 +77,24 @@ abbrev pub is_within_limits : Head → Bool
 is_within_limits h = nat_le h.mark (last_tick_in h.rules.version) && nat_le h.jobs (most_jobs Two)
     && nat_le (h.jobs + 1) h.lines && nat_le h.lines (most_lines h.rules.version)
 
--- the jobs so far, under the rules of the first line
-abbrev pub declared_jobs : Head → List Task → Instance
-declared_jobs h tasks = record { rules = under h.rules []; jobs = jobs_of tasks }
+-- what was handed in so far, under the rules of the first line
+abbrev pub stored : Head → List Item → Session
+stored h items = session_with h.rules items
 
--- the finish of a job that is done with work left
-abbrev pub early_of : Task → Option Finish
-early_of t = then_some (is_done t && nat_lt 0 t.had && nat_lt t.had t.job.work) (finish_now t)
+-- with one item more it is a valid session, whose mark isn't behind that of the snapshot
+abbrev pub may_stand : Head → List Item → Item → Bool
+may_stand h items item = let all = items ++ item ∷ [] in
+    is_valid_session (stored h all) && nat_le (mark_after 0 all) h.mark
 
--- those of the jobs, where jobs may finish early
-abbrev pub early_in : Version → List Task → List Finish
-early_in version tasks = if may_finish_early version then filter_map early_of tasks else []
+-- so it is with a job, which has the next number
+abbrev pub may_follow : Head → List Item → List Task → Task → Bool
+may_follow h items tasks t = (t.number == length tasks) && may_stand h items (JobItem t.job)
 
--- the jobs so far, with their early finishes
-abbrev pub stored : Head → List Task → Instance
-stored h tasks = finishing (declared_jobs h tasks) (early_in h.rules.version tasks)
-
--- what a feed has to hand in of them: the jobs, and each early finish at its tick
-abbrev pub stored_session : Head → List Task → Session
-stored_session h tasks = session_of_run (stored h tasks)
-
--- the job has the next number, is valid with those before it, and isn't released after the mark
-abbrev pub may_follow : Head → List Task → Task → Bool
-may_follow h tasks t = (t.number == length tasks) && is_valid (declared_jobs h (tasks ++ t ∷ []))
-    && nat_le t.job.release h.mark
-
--- the release of the last job, or 0
-abbrev pub last_release : List Task → ℕ
-last_release tasks = fold (λ last t. t.job.release) 0 tasks
-
--- a feed that hands in these items has a line for the ratio and for each of them; its mark is that behind them, or a
--- later one, where there is a line more that may have moved it
+-- A feed that hands in these items has a line for the ratio and for each of them. Its mark is that behind them, or a
+-- later one, where there is a line more that may have moved it.
 abbrev pub has_lines_for : Head → List Item → Bool
-has_lines_for h items = nat_lt (length items) h.lines && nat_le (mark_after 0 items) h.mark
+has_lines_for h items = nat_lt (length items) h.lines
     && (nat_le h.mark (mark_after 0 items) || nat_lt (length items + 1) h.lines)
-
--- so are the jobs, with their early finishes
-abbrev pub has_reached_mark : Head → List Task → Bool
-has_reached_mark h tasks = has_lines_for h (stored_session h tasks).items
 
 -- both are in the same role and have had the same ticks
 abbrev pub is_alike : Task → Task → Bool
@@ -119,44 +107,59 @@ are_alike (t ∷ tasks) (u ∷ others) = is_alike t u && are_alike tasks others
 are_alike _ _ = false
 
 -- the jobs are in the state that their settled steps lead to
-abbrev pub is_settled : Head → List Task → Bool
-is_settled h tasks = are_alike tasks (settled_state (stored h tasks) h.mark).tasks
+abbrev pub is_settled : Head → List Item → List Task → Bool
+is_settled h items tasks = are_alike tasks (settled_state (instance_of (stored h items)) h.mark).tasks
 
 -- ---- line by line
 
--- what the lines so far say: the first line and the jobs, the whole snapshot, or the number of the first refused line
+-- what the lines so far say: the first line with what was handed in and the jobs, the whole snapshot, or the number of
+-- the first refused line
 pub data Reading : Type 0 where
   Begun : Reading
-  Going : Head → List Task → Reading
-  Taken : Head → List Task → Reading
+  Going : Head → List Item → List Task → Reading
+  Taken : Head → List Item → List Task → Reading
   Refused : (line : ℕ) → Reading
 
 -- with the first line
 abbrev pub with_head : Option Head → Reading
 with_head None = Refused 1
-with_head (Some h) = if is_within_limits h then Going h [] else Refused 1
+with_head (Some h) = if is_within_limits h then Going h [] [] else Refused 1
 
--- the line behind so many jobs is refused
-abbrev pub refused_behind : List Task → Reading
-refused_behind tasks = Refused (length tasks + 2)
+-- the line behind those of so many items is refused
+abbrev pub refused_behind : List Item → Reading
+refused_behind items = Refused (length items + 2)
 
 -- with the line of a job
-abbrev pub with_task : Head → List Task → Option Task → Reading
-with_task h tasks None = refused_behind tasks
-with_task h tasks (Some t) = if may_follow h tasks t then Going h (tasks ++ t ∷ []) else refused_behind tasks
+abbrev pub with_task : Head → List Item → List Task → Option Task → Reading
+with_task h items tasks None = refused_behind items
+with_task h items tasks (Some t) = if may_follow h items tasks t
+    then Going h (items ++ JobItem t.job ∷ []) (tasks ++ t ∷ []) else refused_behind items
+
+-- with the line of an early finish, if that is right
+abbrev pub with_finish : Head → List Item → List Task → Option EarlyFinish → Reading
+with_finish h items tasks None = refused_behind items
+with_finish h items tasks (Some f) = if may_stand h items (FinishItem f)
+    then Going h (items ++ FinishItem f ∷ []) tasks else refused_behind items
 
 -- with the last line
-abbrev pub with_last : Head → List Task → Bool → Reading
-with_last h tasks good =
-    if good && has_reached_mark h tasks && is_settled h tasks then Taken h tasks else refused_behind tasks
+abbrev pub with_last : Head → List Item → List Task → Bool → Reading
+with_last h items tasks good = if good && has_lines_for h items && is_settled h items tasks
+    then Taken h items tasks else refused_behind items
+
+-- with a line that is no early finish's: that of a job, or behind the last job the last line
+abbrev pub with_other : Head → List Item → List Task → List ℕ → Reading
+with_other h items tasks line = if nat_lt (length tasks) h.jobs
+    then with_task h items tasks (read_task line)
+    else with_last h items tasks (bytes_eq line (codes "resume"))
 
 -- the next line; behind a whole or a refused snapshot, lines are disregarded
 abbrev pub next_line : Reading → List ℕ → Reading
 next_line Begun line = with_head (read_head line)
-next_line (Going h tasks) line = if nat_lt (length tasks) h.jobs
-    then with_task h tasks (read_task line)
-    else with_last h tasks (bytes_eq line (codes "resume"))
-next_line (Taken h tasks) line = Taken h tasks
+next_line (Going h items tasks) line = elim (read_done line) [
+  | None ↦ with_other h items tasks line
+  | Some done ↦ with_finish h items tasks (early_at (stored h items) done.0 done.1)
+]
+next_line (Taken h items tasks) line = Taken h items tasks
 next_line (Refused at) line = Refused at
 
 -- what the lines say

@@ -5,7 +5,8 @@ use Rattle.dover_model.specs.declared.events.Role.TheVariants.{Coming, Fresh, Wa
 use Rattle.dover_model.specs.declared.events.Task.{Task}
 use Rattle.dover_model.specs.Common.{IsRatio, factor_numbers, Declaration, AreShort, Session, instance_of, IsDeclarable}
 use Rattle.dover_model.specs.Common.{settled_state, rest_of, in_lines, line_of, with_numbers, job_numbers}
-use Rattle.dover_model.specs.Common.{version_number, Account, account, is_open}
+use Rattle.dover_model.specs.Common.{version_number, Account, account, is_open, Item, JobItem, RefusedItem, FinishItem}
+use Rattle.dover_model.specs.Common.{DoneLine, feed_text}
 use Rattle.event_feed.specs.Listing.{HasFewJobs}
 
 -- the feed has declared its ratio, and has at most as many jobs as a snapshot lists; it is neither ended nor faulty,
@@ -74,10 +75,23 @@ pub record IsHead (h : Head) : Type 0 where
 abbrev pub head_of_feed : Account → Session → Head
 head_of_feed a S = record { rules = S.rules; lines = a.lines; mark = a.mark; jobs = length (instance_of S).jobs }
 
--- the first line, the line of each job in the state that the settled steps lead to, and the last line
+-- the line of an early finish: that of the feed
+abbrev pub done_line : (at number : ℕ) → List ℕ
+done_line at number = feed_text (DoneLine at number)
+
+-- the lines of what was handed in, in its order, where the jobs are in these states: that of each job, and that of each
+-- early finish; what was refused has none
+abbrev pub stored_lines : List Item → List Task → List (List ℕ)
+stored_lines [] tasks = []
+stored_lines (JobItem j ∷ items) [] = stored_lines items []
+stored_lines (JobItem j ∷ items) (t ∷ tasks) = state_line t ∷ stored_lines items tasks
+stored_lines (RefusedItem r ∷ items) tasks = stored_lines items tasks
+stored_lines (FinishItem f ∷ items) tasks = done_line f.at f.finish.number ∷ stored_lines items tasks
+
+-- the first line; those of what was handed in, with each job in the state that the settled steps lead to; the last line
 abbrev pub snapshot_lines : Account → Session → List (List ℕ)
-snapshot_lines a S = head_line (head_of_feed a S) ∷ map state_line (settled_state (instance_of S) a.mark).tasks
-    ++ codes "resume" ∷ []
+snapshot_lines a S = head_line (head_of_feed a S)
+    ∷ stored_lines S.items (settled_state (instance_of S) a.mark).tasks ++ codes "resume" ∷ []
 
 -- the snapshot of a feed that may pause
 abbrev pub snapshot : List ℕ → List ℕ

@@ -7,8 +7,8 @@ use Rattle.snapshot.specs.declared.resuming.Resuming.{Resuming}
 -- how many jobs the lines have, before the one that is refused if one is
 abbrev pub jobs_read : Reading → ℕ
 jobs_read Begun = 0
-jobs_read (Going h tasks) = length tasks
-jobs_read (Taken h tasks) = length tasks
+jobs_read (Going h items tasks) = length tasks
+jobs_read (Taken h items tasks) = length tasks
 jobs_read (Refused line) = line - 2
 
 -- how many jobs are served again

@@ -1,13 +1,14 @@
 //! The lines of a feed, handed in again.
-ghost use Rattle.std.specs.Prelude.{◌≡◌, ℕ, List, [], ◌∷◌, ◌++◌, false, IfSome, IsNone, is_some};
-ghost use Rattle.dover_model.specs.declared.events.Task.{Task};
-ghost use Rattle.dover_model.specs.Common.{IsValid, job_numbers, AreShort, HasNumerals, feed_text, IsDeclarable};
+ghost use Rattle.std.specs.Prelude.{◌≡◌, ℕ, List, [], ◌∷◌, ◌++◌, length, false, IfSome, IsNone, is_some};
+ghost use Rattle.dover_model.specs.Common.{IsValidSession, Item, JobItem, FinishItem, EarlyFinish, job_numbers};
+ghost use Rattle.dover_model.specs.Common.{AreShort};
+ghost use Rattle.dover_model.specs.Common.{HasNumerals, DoneLine, feed_text, IsDeclarable};
 ghost use Rattle.line_text.specs.feeds.Form.{form_of};
 ghost use Rattle.event_feed.specs.Kept.{StandsFor, has_ended};
 ghost use Rattle.snapshot.specs.Snapshot as model;
-ghost use Rattle.snapshot.specs.Reading.{declared_jobs};
+ghost use Rattle.snapshot.specs.Reading.{stored};
 ghost use Rattle.snapshot.specs.Forms.{head_in, task_in};
-ghost use Rattle.snapshot.specs.Kept.{IsFed, handed_lines, HasRoom, IsGoodNext, CanPause, job_in};
+ghost use Rattle.snapshot.specs.Kept.{IsFed, IsRightAt, feed_lines, HasRoom, IsGoodNext, CanPause, job_in};
 
 use crate::forms::{Head, StateLine};
 use dover_model::Job;
@@ -45,16 +46,15 @@ fn is_job(fed: Fed) -> bool
     matches!(fed, Fed::Job(..))
 }
 
-/// Hands in the line of a job. The job comes exactly where it is valid with those before it.
+/// Hands in the line of a job. The job comes exactly where it makes a valid session of what was handed in.
 pub(crate) fn hand_job(intake: &mut Intake, state: &StateLine) -> Option<Job>
     requires numerals { AreShort (job_numbers (task_in state.now).job) }
-    requires fed { (h : model.Head) × (tasks : List Task) × IsFed intake.old h tasks × HasRoom h tasks }
-    ensures some { (h : model.Head) (tasks : List Task) → IsFed intake.old h tasks → HasRoom h tasks
-        → IfSome result (λ job.
-        (job ≡ (task_in state.now).job) × IsValid (declared_jobs h (tasks ++ task_in state.now ∷ []))
-        × IsFed intake.new h (tasks ++ task_in state.now ∷ [])) }
-    ensures none { (h : model.Head) (tasks : List Task) → IsFed intake.old h tasks → HasRoom h tasks → IsNone result →
-        IsValid (declared_jobs h (tasks ++ task_in state.now ∷ [])) → ⊥ }
+    requires fed { (h : model.Head) × (items : List Item) × IsFed intake.old h items × HasRoom h items }
+    ensures some { (h : model.Head) (items : List Item) → IsFed intake.old h items → HasRoom h items
+        → IfSome result (λ job. (job ≡ (task_in state.now).job)
+        × IsValidSession (stored h (items ++ JobItem job ∷ [])) × IsFed intake.new h (items ++ JobItem job ∷ [])) }
+    ensures none { (h : model.Head) (items : List Item) → IsFed intake.old h items → HasRoom h items → IsNone result
+        → IsValidSession (stored h (items ++ JobItem (task_in state.now).job ∷ [])) → ⊥ }
 {
     let line = FeedLine::Job {
         release: state.release,
@@ -78,15 +78,27 @@ pub(crate) fn hand_job(intake: &mut Intake, state: &StateLine) -> Option<Job>
     }
 }
 
-/// Hands in tick lines at the mark for the lines that are left of the feed.
-pub(crate) fn hand_ticks(intake: &mut Intake, head: &Head)
-    requires { (tasks : List Task) × IsFed intake.old (head_in head.now) tasks × CanPause (head_in head.now) tasks }
-    ensures stands { (tasks : List Task) → IsFed intake.old (head_in head.now) tasks → CanPause (head_in head.now) tasks
-        →
-        StandsFor intake.new (handed_lines (head_in head.now) tasks) }
+/// Hands in the line of an early finish, which is right.
+pub(crate) fn hand_done(intake: &mut Intake, at: u64, number: u64)
+    requires numerals { HasNumerals (DoneLine at number) }
+    requires fed { (h : model.Head) × (items : List Item) × (f : EarlyFinish) × IsFed intake.old h items
+        × IsRightAt h items at number f }
+    ensures { (h : model.Head) (items : List Item) (f : EarlyFinish) → IsFed intake.old h items
+        → IsRightAt h items at number f → IsFed intake.new h (items ++ FinishItem f ∷ []) }
 {
-    if head.lines > head.jobs + 1 {
+    hand(intake, FeedLine::Done { at, number });
+}
+
+/// Hands in tick lines at the mark for the lines that are left of the feed behind those of so many items.
+pub(crate) fn hand_ticks(intake: &mut Intake, head: &Head, handed: u64)
+    requires { (items : List Item) × IsFed intake.old (head_in head.now) items × CanPause (head_in head.now) items
+        × (handed ≡ length items) }
+    ensures stands { (items : List Item) → IsFed intake.old (head_in head.now) items
+        → CanPause (head_in head.now) items → handed ≡ length items
+        → StandsFor intake.new (feed_lines (head_in head.now) items) }
+{
+    if head.lines > handed + 1 {
         hand(intake, FeedLine::Tick { at: head.mark });
-        intake.skip(head.lines - head.jobs - 2);
+        intake.skip(head.lines - handed - 2);
     }
 }

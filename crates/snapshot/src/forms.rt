@@ -2,13 +2,14 @@
 ghost use Rattle.std.specs.Prelude.{◌≡◌, ◌∷◌, ◌++◌, ◌<◌, ℕ, List, Some, IfSome, IfNone, option_map};
 ghost use Rattle.std.specs.Option.{option_and_then};
 ghost use Rattle.dover_model.specs.declared.events.Role.{Role};
-ghost use Rattle.dover_model.specs.Common.{rules_with, fields_of, numerals};
+ghost use Rattle.dover_model.specs.Common.{rules_with, fields_of, numerals, HasNumerals, DoneLine};
 ghost use Rattle.snapshot.specs.Reading as model;
-ghost use Rattle.snapshot.specs.Snapshot.{role_word};
+ghost use Rattle.snapshot.specs.Snapshot.{role_word, done_line};
 ghost use Rattle.snapshot.specs.Forms.{head_in, task_in, behind_number, behind_word};
 
 use dover_model::{Ratio, Role, Version};
 use event_feed::declared_with_factor;
+use line_text::feeds::{FeedLine, read_feed_line};
 use line_text::{LINE_BYTES, behind_word, first_number, numbers_in};
 
 /// The first line: the rules are within their limits, and the other numbers are below 10^18.
@@ -194,5 +195,18 @@ pub(crate) fn read_state(line: &[u8]) -> Option<StateLine>
     match behind_word(line, b"state") {
         Some(fields) => state_left(fields),
         None => None,
+    }
+}
+
+/// Reads the line of an early finish, without its line feed: its tick, and the job's number. None where it has another
+/// form.
+pub(crate) fn read_done(line: &[u8]) -> Option<(u64, u64)>
+    ensures is { result ≡ model.read_done line.now }
+    ensures short { IfSome result (λ r. HasNumerals (DoneLine r.0 r.1)) }
+    ensures text { IfSome result (λ r. done_line r.0 r.1 ≡ line.now) }
+{
+    match read_feed_line(line) {
+        Ok(FeedLine::Done { at, number }) => Some((at, number)),
+        _ => None,
     }
 }

@@ -1,9 +1,9 @@
 //! Laws of snapshots, each the contract of a function that does nothing.
 ghost use Rattle.std.specs.Prelude.{◌≡◌, ◌++◌, ℕ, List, Some};
 ghost use Rattle.dover_model.specs.declared.events.Task.{Task};
-ghost use Rattle.dover_model.specs.Common.{whole_lines, Begins};
-ghost use Rattle.snapshot.specs.Snapshot.{MayPause, snapshot, Head, head_line, IsHead, state_line, IsState};
-ghost use Rattle.snapshot.specs.Reading.{Refused, reading_of, read_head, read_task};
+ghost use Rattle.dover_model.specs.Common.{whole_lines, Begins, Item, HasNumerals, DoneLine};
+ghost use Rattle.snapshot.specs.Snapshot.{MayPause, snapshot, Head, head_line, IsHead, state_line, IsState, done_line};
+ghost use Rattle.snapshot.specs.Reading.{Refused, reading_of, read_head, read_task, read_done};
 ghost use Rattle.snapshot.specs.Kept.{IsWhole};
 ghost use Rattle.snapshot.specs.Feeds.{IsSnapshot, GoOnEqually};
 
@@ -12,13 +12,15 @@ pub fn lines_have_one_spelling()
     ensures head_again { (h : Head) → IsHead h → read_head (head_line h) ≡ Some h }
     ensures head_only { (line : List ℕ) (h : Head) → read_head line ≡ Some h → (head_line h ≡ line) × IsHead h }
     ensures job_again { (t : Task) → IsState t → read_task (state_line t) ≡ Some t }
+    ensures finish_again { (at n : ℕ) → HasNumerals (DoneLine at n) → read_done (done_line at n) ≡ Some (at, n) }
+    ensures finish_only { (line : List ℕ) (at n : ℕ) → read_done line ≡ Some (at, n) → done_line at n ≡ line }
     ensures job_only { (line : List ℕ) (t : Task) → read_task line ≡ Some t → (state_line t ≡ line) × IsState t }
 {}
 
 /// Each feed that may pause has a snapshot that is taken: it is read to its last line, and no front of it is refused.
 pub fn each_snapshot_is_taken()
-    ensures whole { (F : List ℕ) → MayPause F → (h : Head) × (tasks : List Task)
-        × IsWhole h tasks (whole_lines (snapshot F)) }
+    ensures whole { (F : List ℕ) → MayPause F → (h : Head) × (items : List Item)
+        × (tasks : List Task) × IsWhole h items tasks (whole_lines (snapshot F)) }
     ensures never_refused { (F : List ℕ) (ls : List (List ℕ)) (at : ℕ) → MayPause F
         → Begins ls (whole_lines (snapshot F)) →
         reading_of ls ≡ Refused at → ⊥ }
@@ -26,7 +28,8 @@ pub fn each_snapshot_is_taken()
 
 /// A snapshot that is taken is that of a feed.
 pub fn each_taken_is_a_snapshot()
-    ensures { (h : Head) (tasks : List Task) (ls : List (List ℕ)) → IsWhole h tasks ls → IsSnapshot ls }
+    ensures { (h : Head) (items : List Item) (tasks : List Task) (ls : List (List ℕ)) → IsWhole h items tasks ls
+        → IsSnapshot ls }
 {}
 
 /// Feeds with the same snapshot go on in the same way, whatever follows.

@@ -1,16 +1,16 @@
 //! The snapshot of a feed that is paused, line by line.
-ghost use Rattle.std.specs.Prelude.{◌≡◌, ◌<◌, ◌++◌, ◌∷◌, ℕ, List, [], length, get_or};
+ghost use Rattle.std.specs.Prelude.{◌≡◌, ◌||◌, List, ℕ, nat_le};
 ghost use Rattle.dover_model.specs.Lines.{in_lines};
 ghost use Rattle.snapshot.specs.Snapshot.{snapshot};
-ghost use Rattle.snapshot.specs.Pausing.{IsTakenTo};
+ghost use Rattle.snapshot.specs.Pausing.{IsTakenTo, Writes};
 
-use crate::writing::{head, last, state};
+use crate::writing::{done, head, last, state};
 use dover_model::{Ratio, Version};
 use line_text::BackLine;
-use ready_server::{ReadyServer, Roster};
+use ready_server::{ListedFinish, ReadyServer, Roster};
 use std::marker::Model;
 
-/// A paused feed, seen as the lines of its snapshot.
+/// A paused feed, seen as the lines of its snapshot that are still to write.
 #[derive(Drop)]
 pub struct Paused {
     roster: Roster,
@@ -18,6 +18,10 @@ pub struct Paused {
     ratio: Ratio,
     lines: u64,
     mark: u64,
+    begun: bool,
+    finish: usize,
+    job: usize,
+    over: bool,
 }
 
 impl Model for Paused {
@@ -25,14 +29,22 @@ impl Model for Paused {
     ghost use Rattle.dover_model.specs.declared.events.Version.TheVariants.{Three};
     ghost use Rattle.dover_model.specs.Limits.{most_jobs, most_lines, last_tick};
     ghost use Rattle.dover_model.specs.Feed.{rules_with};
-    ghost use Rattle.snapshot.specs.Pausing.{lines_in};
+    ghost use Rattle.snapshot.specs.Pausing.{lines_left};
 
     ghost Value = { List (List ℕ) };
 
-    ghost view = { λ p. lines_in p.roster.roll (rules_with p.ratio p.version) p.lines p.mark };
+    ghost view = { λ p. lines_left p.begun p.over p.roster.roll (rules_with p.ratio p.version) p.lines p.mark p.job
+        p.finish };
 
     ghost invariant = { λ p. (p.lines ≤ most_lines Three) × (p.mark ≤ last_tick)
-        × (length p.roster.roll.jobs ≤ most_jobs Three) };
+        × (length p.roster.roll.jobs ≤ most_jobs Three) × (length p.roster.roll.finishes ≤ most_jobs Three) };
+}
+
+/// Whether an early finish stands before the line of the job of this number, or there are no more than so many jobs.
+fn is_next(finish: &ListedFinish, job: usize, jobs: usize) -> bool
+    ensures { result ≡ (nat_le finish.now.behind job || nat_le jobs job) }
+{
+    finish.behind <= job || jobs <= job
 }
 
 impl Paused {
@@ -47,29 +59,43 @@ impl Paused {
             roster,
             lines,
             mark,
+            begun: false,
+            finish: 0,
+            job: 0,
+            over: false,
         }
     }
 
-    /// How many lines its snapshot has.
-    pub fn count(&self) -> u64
-        ensures { result ≡ length self.now }
+    /// Writes the next line with its line feed, in place of what the buffer had. False where all were written.
+    pub fn next_line(&mut self, to: &mut BackLine) -> bool
+        ensures { Writes self.old self.new to.new result }
     {
-        self.roster.count() as u64 + 2
-    }
-
-    /// Writes the line of this number, from 0 on, with its line feed, in place of what the buffer had.
-    pub fn line(&self, number: u64, to: &mut BackLine)
-        requires { number < length self.now }
-        ensures { to.new ≡ get_or self.now number [] ++ 10 ∷ [] }
-    {
-        if number == 0 {
+        if self.over {
+            return false;
+        }
+        if !self.begun {
+            self.begun = true;
             let jobs = self.roster.count() as u64;
             head(self.version, self.ratio, self.lines, self.mark, jobs, to);
-            return;
+            return true;
         }
-        match self.roster.job((number - 1) as usize, self.mark) {
-            Some(job) => state(&job, to),
-            None => last(to),
+        if let Some(finish) = self.roster.finish(self.finish) {
+            if is_next(&finish, self.job, self.roster.count()) {
+                self.finish += 1;
+                done(finish.at, u64::from(finish.number), to);
+                return true;
+            }
         }
+        match self.roster.job(self.job, self.mark) {
+            Some(job) => {
+                self.job += 1;
+                state(&job, to);
+            }
+            None => {
+                self.over = true;
+                last(to);
+            }
+        }
+        true
     }
 }

@@ -81,6 +81,14 @@ pub(crate) fn state(task: &Task, to: &mut BackLine)
     first_fields(task.number, to);
 }
 
+/// Writes the line of an early finish with its line feed.
+pub(crate) fn done(at: u64, number: u64, to: &mut BackLine)
+    ensures { to.new ≡ model.done_line at number ++ 10 ∷ [] }
+{
+    to.clear();
+    to.put_with_wide(b"done", &[at, number]);
+}
+
 /// Writes the last line with its line feed.
 pub(crate) fn last(to: &mut BackLine)
     ensures { to.new ≡ codes "resume" ++ 10 ∷ [] }

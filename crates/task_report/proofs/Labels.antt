@@ -3,14 +3,13 @@ use Rattle.std.proofs.Common.{◌≡◌, ℕ, ◌+◌, ◌≤◌, ◌<◌, List,
 use Rattle.std.proofs.Common.{add-one, append-nil, append_assoc, drop-cons, Option}
 use Rattle.std.proofs.lemmas.List.{drop_all, map-append}
 use Rattle.dover_model.specs.Common.{Instance, JobFacts}
-use Rattle.run_picture.specs.Pictures.{grouped_picture}
 use Rattle.run_reports.specs.declared.views.window.Window.{Window}
 use Rattle.run_reports.specs.views.Templates.{Text}
 use Rattle.run_reports.specs.views.Timeline.{grouped_timeline}
 use Rattle.task_words.specs.declared.tasks.task.PeriodicTask.{PeriodicTask}
-use Rattle.task_report.specs.Pictures.{label_of, labels, labels_from, task_text, tasks_of}
+use Rattle.task_report.specs.Pictures.{IsTaskReport, label_of, labels, labels_from, tasks_of}
 use Rattle.task_report.specs.Tallies.{task_of}
-use Rattle.task_report.specs.declared.form.TaskForm.TheVariants.{Timeline, Svg}
+use Rattle.task_report.specs.declared.form.TaskForm.TheVariants.{Timeline}
 
 -- one task more
 pub labels_more : {V : Type 0} (f : V → Text) (tasks : List PeriodicTask) (i : ℕ) (d : PeriodicTask) (own next : List V)
@@ -39,12 +38,7 @@ module _ (tasks : List PeriodicTask) (J : Instance) (own : List JobFacts) (of : 
   groups = sorted ∙ ap (map (task_of tasks)) released
 
   -- what is drawn of jobs in groups is drawn of the jobs of tasks
-  pub timeline_text : (refused : ℕ) (text : Text) → text ≡ grouped_timeline window of heads J
-      → text ≡ task_text (Timeline window) tasks refused J
-  timeline_text refused text is = is ∙ ap (λ h. grouped_timeline window of h J) named
+  pub timeline_text : (text : Text) → text ≡ grouped_timeline window of heads J
+      → IsTaskReport (Timeline window) tasks J text
+  timeline_text text is = is ∙ ap (λ h. grouped_timeline window of h J) named
       ∙ ap (λ o. grouped_timeline window o (labels tasks o) J) groups
-
-  pub svg_text : (refused : ℕ) (text : Text) → text ≡ grouped_picture window refused of heads J
-      → text ≡ task_text (Svg window) tasks refused J
-  svg_text refused text is = is ∙ ap (λ h. grouped_picture window refused of h J) named
-      ∙ ap (λ o. grouped_picture window refused o (labels tasks o) J) groups

@@ -54,7 +54,7 @@ report_same form tasks z y text same Done it = record {
   valid = it.valid;
   accepted = same ∙ it.accepted;
   fits = it.fits;
-  text_is = it.text_is;
+  reports = it.reports;
 }
 report_same form tasks z y text same No it = (told_same z y same No it.0, it.1 ∙ ap verdict_text (sym same))
 report_same form tasks z y text same Refused it = (

@@ -31,7 +31,7 @@ use Rattle.task_words.specs.budget.Budgets.{task_at}
 use Rattle.task_words.specs.declared.tasks.task.PeriodicTask.{PeriodicTask}
 use Rattle.task_report.specs.Talk.{SaysReport}
 use Rattle.task_report.specs.Tallies.{all_together, task_of}
-use Rattle.task_report.specs.Pictures.{Fits, task_text}
+use Rattle.task_report.specs.Pictures.{Fits, IsTaskReport}
 use Rattle.task_report.specs.Telling.{IsRunBy, TellsBy}
 use Rattle.task_report.specs.Texts.{other_line, report, task_line}
 use Rattle.task_report.specs.Writing.{report_in, task_lines}
@@ -76,7 +76,7 @@ module _ (tasks : List PeriodicTask) (trace : List ℕ) (S : Session) (valid : I
     valid = valid;
     accepted = accepted;
     fits = tt;
-    text_is = report_is tasks (instance_of S) steps (session_jobs valid) are;
+    reports = report_is tasks (instance_of S) steps (session_jobs valid) are;
   }
 
   -- it was put
@@ -90,9 +90,9 @@ module _ (tasks : List PeriodicTask) (trace : List ℕ) (S : Session) (valid : I
 -- ---- a picture
 
 -- the run of a session that a report keeps
-pub run_of : (S : Session) (version : Version) (ratio : Fraction) (steps : List Event) (refused : ℕ)
-    → IsRunBy S version ratio steps refused → IsListable (instance_of S) → IsRunOf ratio steps (instance_of S)
-run_of S version ratio steps refused of it = record {
+pub run_of : (S : Session) (version : Version) (ratio : Fraction) (steps : List Event)
+    → IsRunBy S version ratio steps → IsListable (instance_of S) → IsRunOf ratio steps (instance_of S)
+run_of S version ratio steps of it = record {
   valid = session_jobs of.valid;
   listable = it;
   ratio = of.ratio_is;
@@ -101,16 +101,13 @@ run_of S version ratio steps refused of it = record {
 
 -- that of a text that was judged, with the judge's last word on it
 pub run_by : (k : Fraction) (version : Version) (value most jobs : ℕ) (trace : List ℕ)
-    (tells : Tells (Accepted k version value most jobs) trace) (steps : List Event) (refused : ℕ)
-    → steps ≡ steps_told true (verdict trace)
-    → ((S : Session) → verdict trace ≡ model.Accepted S → refused ≡ model.refused_count S)
-    → IsRunBy tells.0 version k steps refused
-run_by k version value most jobs trace tells steps refused are counts = record {
+    (tells : Tells (Accepted k version value most jobs) trace) (steps : List Event)
+    → steps ≡ steps_told true (verdict trace) → IsRunBy tells.0 version k steps
+run_by k version value most jobs trace tells steps are = record {
   valid = tells.7.valid;
   version_is = sym tells.3;
   ratio_is = sym tells.2;
   prints = are ∙ ap (λ v. steps_told true v) tells.1;
-  refused_is = counts tells.0 tells.1;
 }
 
 -- where a picture is asked for it fits exactly what a report keeps
@@ -126,52 +123,53 @@ listed_fits (Svg window) J drawn it = it
 
 module _ (form : TaskForm) (tasks : List PeriodicTask) (drawn : form ≡ Lines → ⊥) (trace : List ℕ) (S : Session)
     (accepted : verdict trace ≡ model.Accepted S) (version : Version) (ratio : Fraction) (steps : List Event)
-    (refused : ℕ) (of : IsRunBy S version ratio steps refused) (a b : Option (List Move)) where
+    (of : IsRunBy S version ratio steps) (a b : Option (List Move)) where
   -- ---- it is drawn
 
   module _ (listable : IsListable (instance_of S)) where
     -- it is what is said of the tasks and the trace
-    says_drawn : SaysReport form tasks Done trace (task_text form tasks refused (instance_of S))
-    says_drawn = record {
+    says_drawn : (said : List ℕ) → IsTaskReport form tasks (instance_of S) said → SaysReport form tasks Done trace said
+    says_drawn said is = record {
       session = S;
       valid = of.valid;
       accepted = accepted;
       fits = fits_listed form (instance_of S) drawn listable;
-      text_is = ap (λ n. task_text form tasks n (instance_of S)) of.refused_is;
+      reports = is;
     }
 
     -- it was put
-    pub drawn_put : (x : Unit {0}) → Puts (Ok x) a b [] (task_text form tasks refused (instance_of S))
+    pub drawn_put : (x : Unit {0}) → Puts (Ok x) a b [] (IsTaskReport form tasks (instance_of S))
         → TellsBy form tasks trace a b [] (Ok Done)
-    drawn_put x put = (_, says_drawn, put)
+    drawn_put x put = (put.0, says_drawn put.0 put.1, put.2)
 
     -- it couldn't be put, or there was no memory for it
-    pub drawn_cut : (stop : Stop) → Puts {T = Unit {0}} (Err stop) a b [] (task_text form tasks refused (instance_of S))
+    pub drawn_cut : (stop : Stop) → Puts {T = Unit {0}} (Err stop) a b [] (IsTaskReport form tasks (instance_of S))
         → TellsBy form tasks trace a b [] (Err stop)
     drawn_cut NoMemory none = ((S, of.valid, accepted), none)
-    drawn_cut Unwritten cut = (Done, _, says_drawn, cut)
+    drawn_cut Unwritten cut = (Done, cut.0, says_drawn cut.0 cut.1, cut.2)
 
   -- ---- it is too much
 
   module _ (unlisted : IsListable (instance_of S) → ⊥) where
-    says_size : SaysReport form tasks Refused trace size_text
-    says_size = (
+    says_size : (said : List ℕ) → said ≡ size_text → SaysReport form tasks Refused trace said
+    says_size said is = (
       record {
         session = S;
         valid = of.valid;
         accepted = accepted;
         unfit = λ it. unlisted (listed_fits form (instance_of S) drawn it);
       },
-      refl,
+      is,
     )
 
-    pub size_put : (x : Unit {0}) → Puts (Ok x) a b [] size_text → TellsBy form tasks trace a b [] (Ok Refused)
-    size_put x put = (size_text, says_size, put)
+    pub size_put : (x : Unit {0}) → Puts (Ok x) a b [] (λ said. said ≡ size_text)
+        → TellsBy form tasks trace a b [] (Ok Refused)
+    size_put x put = (put.0, says_size put.0 put.1, put.2)
 
-    pub size_cut : (stop : Stop) → Puts {T = Unit {0}} (Err stop) a b [] size_text
+    pub size_cut : (stop : Stop) → Puts {T = Unit {0}} (Err stop) a b [] (λ said. said ≡ size_text)
         → TellsBy form tasks trace a b [] (Err stop)
     size_cut NoMemory none = ((S, of.valid, accepted), none)
-    size_cut Unwritten cut = (Refused, size_text, says_size, cut)
+    size_cut Unwritten cut = (Refused, cut.0, says_size cut.0 cut.1, cut.2)
 
 -- ---- the line of a verdict
 

@@ -1,10 +1,9 @@
 -- What is said of a run by tasks: lines, or a picture.
-use Rattle.std.specs.Prelude.{ℕ, ◌+◌, List, [], ◌∷◌, ◌++◌, Bool, ◌==◌, if◌then◌else◌, map, length, codes}
+use Rattle.std.specs.Prelude.{◌≡◌, ℕ, ◌+◌, List, [], ◌∷◌, ◌++◌, Bool, ◌==◌, if◌then◌else◌, map, length, codes}
 use Rattle.std.specs.List.{list_any}
 use Rattle.dover_model.specs.Common.{Instance, IsListable}
 use Rattle.run_reports.specs.views.Templates.{Text, filled}
 use Rattle.run_reports.specs.views.Timeline.{grouped_timeline}
-use Rattle.run_picture.specs.Pictures.{grouped_picture}
 use Rattle.task_words.specs.tasks.Names.{name_bytes}
 use Rattle.task_words.specs.declared.tasks.name.TaskName.{TaskName}
 use Rattle.task_words.specs.declared.tasks.task.PeriodicTask.{PeriodicTask}
@@ -35,13 +34,13 @@ labels tasks of = labels_from 0 tasks ++ other_label (list_any (λ y. y == lengt
 abbrev pub tasks_of : List PeriodicTask → Instance → List ℕ
 tasks_of tasks J = map (task_of tasks) J.jobs
 
--- what is said of a run with so many refused lines, in this form
-abbrev pub task_text : TaskForm → List PeriodicTask → (refused : ℕ) → Instance → List ℕ
-task_text Lines tasks refused J = report tasks J
-task_text (Timeline window) tasks refused J =
-    grouped_timeline window (tasks_of tasks J) (labels tasks (tasks_of tasks J)) J
-task_text (Svg window) tasks refused J =
-    grouped_picture window refused (tasks_of tasks J) (labels tasks (tasks_of tasks J)) J
+-- the text is what is said of a run in this form: lines, or a picture for a terminal; a picture for a browser is some
+-- text, which is tested and not proved
+abbrev pub IsTaskReport : TaskForm → List PeriodicTask → Instance → (text : List ℕ) → Type 0
+IsTaskReport Lines tasks J text = text ≡ report tasks J
+IsTaskReport (Timeline window) tasks J text =
+    text ≡ grouped_timeline window (tasks_of tasks J) (labels tasks (tasks_of tasks J)) J
+IsTaskReport (Svg window) tasks J text = Unit {0}
 
 -- a picture has no more jobs than a report keeps, and lines have any
 abbrev pub Fits : TaskForm → Instance → Type 0

@@ -1,7 +1,7 @@
 -- What the word says, by the bytes got so far.
 use Rattle.std.specs.Prelude.{◌≡◌, ◌⊎◌, ℕ, List, [], Bool, true, false, not}
 use Rattle.dover_model.specs.Common.{Standing, Open, Ended, Faulty, Session, IsValidSession, instance_of}
-use Rattle.dover_model.specs.Verdict.{Accepted, verdict, refused_count}
+use Rattle.dover_model.specs.Verdict.{Accepted, verdict}
 use Rattle.dover_port.specs.declared.status.Status.{Status}
 use Rattle.dover_port.specs.declared.status.Status.TheVariants.{Done, No, Refused}
 use Rattle.dialogue.specs.Sizes.{size_text}
@@ -14,7 +14,7 @@ use Rattle.trace_judge.specs.Judging.{is_wrong}
 use Rattle.trace_words.specs.judge.Line.{verdict_text}
 use Rattle.trace_words.specs.judge.Talk.{IsNoTrace, IsTrace}
 use Rattle.task_report.specs.Behind.{behind}
-use Rattle.task_report.specs.Pictures.{Fits, task_text}
+use Rattle.task_report.specs.Pictures.{Fits, IsTaskReport}
 use Rattle.task_report.specs.declared.form.TaskForm.{TaskForm}
 
 -- the task text goes on, or it has ended without a fault and no line of what follows is a wrong one of a trace
@@ -23,13 +23,13 @@ goes_on Open trace = true
 goes_on Ended trace = not (is_wrong (verdict trace))
 goes_on (Faulty line cause) trace = false
 
--- the trace is that of a valid session, whose run fits the form, and the text is made of it
+-- the trace is that of a valid session, whose run fits the form, and the text is what is said of it
 pub record IsReported (form : TaskForm) (tasks : List PeriodicTask) (trace text : List ℕ) : Type 0 where
   pub session : Session
   pub valid : IsValidSession session
   pub accepted : verdict trace ≡ Accepted session
   pub fits : Fits form (instance_of session)
-  pub text_is : text ≡ task_text form tasks (refused_count session) (instance_of session)
+  pub reports : IsTaskReport form tasks (instance_of session) text
 
 -- the trace is that of a valid session, whose run doesn't fit the form
 pub record IsTooMuch (form : TaskForm) (trace : List ℕ) : Type 0 where

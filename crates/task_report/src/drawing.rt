@@ -84,7 +84,7 @@ pub(crate) fn picture(
     requires run { (J : Instance) × IsRunOf ratio steps.now J }
     requires drawn { form ≢ Lines }
     ensures { (J : Instance) → IsRunOf ratio steps.now J →
-        IfOk result (λ text. text.items ≡ pictures.task_text form tasks.now refused J) }
+        IfOk result (λ text. pictures.IsTaskReport form tasks.now J text.items) }
 {
     let jobs = released(alloc, steps)?;
     let of = sort_jobs(alloc, tasks, &jobs)?;

@@ -58,9 +58,9 @@ fn tell_picture<P: Port>(
     refused: u64,
 ) -> Result<Status, Stop>
     requires drawn { form ≢ Lines }
-    requires run { (S : Session) × IsRunBy S version ratio steps.items refused }
+    requires run { (S : Session) × IsRunBy S version ratio steps.items }
     ensures tells { (trace : List ℕ) (S : Session) → verdict trace ≡ Accepted S →
-        IsRunBy S version ratio steps.items refused →
+        IsRunBy S version ratio steps.items →
         TellsBy form tasks.now trace (P.moves port.old) (P.moves port.new) [] result }
     ensures cause { StopCause result
         (P.write_faults port.old) (P.write_faults port.new) (P.read_faults port.old) (P.read_faults port.new) }
@@ -92,9 +92,9 @@ fn tell_run<P: Port>(
     refused: u64,
 ) -> Result<Status, Stop>
     requires empty { out.old ≡ [] }
-    requires run { (S : Session) × IsRunBy S version ratio steps.items refused }
+    requires run { (S : Session) × IsRunBy S version ratio steps.items }
     ensures tells { (trace : List ℕ) (S : Session) → verdict trace ≡ Accepted S →
-        IsRunBy S version ratio steps.items refused →
+        IsRunBy S version ratio steps.items →
         TellsBy form tasks.now trace (P.moves port.old) (P.moves port.new) out.new result }
     ensures cause { StopCause result
         (P.write_faults port.old) (P.write_faults port.new) (P.read_faults port.old) (P.read_faults port.new) }

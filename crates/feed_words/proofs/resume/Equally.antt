@@ -15,7 +15,7 @@ use Rattle.snapshot.specs.Snapshot.{MayPause, snapshot}
 use Rattle.snapshot.specs.Feeds.{GoOnEqually}
 use Rattle.dover_model.specs.declared.events.Version.TheVariants.{Two}
 use Rattle.dover_model.proofs.sessions.Accounts.{account_kept}
-use Rattle.snapshot.proofs.Alike.{Alike, SameRun, GoAlike, lines_alike}
+use Rattle.snapshot.proofs.Alike.{Alike, SameRun, GoAlike, lines_alike, same_jobs}
 use Rattle.event_feed.proofs.Behind.{account_behind, rest_behind}
 use Rattle.snapshot.proofs.Feeds.{go_on, same_alike, named}
 use Rattle.feed_words.specs.serve.Keeping.{due_behind, serve_talk}
@@ -37,7 +37,7 @@ abbrev jobs_in : Option Session → ℕ
 jobs_in s = elim s [ None ↦ 0 | Some S ↦ length (admitted_jobs S.items) ]
 
 same_admitted : (s t : Option Session) → SameRun s t → jobs_in s ≡ jobs_in t
-same_admitted (Some S) (Some T) same = sym (ap length same.jobs)
+same_admitted (Some S) (Some T) same = sym (ap length (same_jobs S T same))
 same_admitted _ _ same = absurd same
 
 -- ---- two feeds with the same snapshot

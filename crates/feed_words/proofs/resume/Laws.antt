@@ -26,10 +26,10 @@ module _ {L : Type 0} (a : Asked) (now : ℕ) (x : List ℕ) where
   few (stage.Refused line) at goes = never (sym (goes_at a x (Refused line) at.0) ∙ goes)
   few (stage.Serving s) at goes =
       let still = sym (past_goes a x _ at) ∙ goes in
-      let opened = open_stands (account (feed_of at.head at.tasks ++ behind_snapshot at.head at.tasks x)) still in
-      talking.few_bytes x at.head at.tasks at.reads still
-      (open_bytes (feed_of at.head at.tasks ++ behind_snapshot at.head at.tasks x) opened
-      (open_short (feed_of at.head at.tasks ++ behind_snapshot at.head at.tasks x) opened))
+      let opened = open_stands (account (feed_of at.head at.items ++ behind_snapshot at.head at.items x)) still in
+      talking.few_bytes x at.head at.items at.tasks at.reads still
+      (open_bytes (feed_of at.head at.items ++ behind_snapshot at.head at.items x) opened
+      (open_short (feed_of at.head at.items ++ behind_snapshot at.head at.items x) opened))
 
   module _ (rest : List (List ℕ)) where
     -- few parts are left

@@ -3,6 +3,7 @@ use Rattle.std.proofs.Common.{◌≡◌, ◌<◌, ℕ, List, [], ◌∷◌, ◌+
 use Rattle.std.proofs.Common.{◌∙◌, Bool, true, false, cond, arith, length-append, fold, ltb-true, lt-ltb}
 use Rattle.std.proofs.lemmas.List.Sums.{fold-append}
 use Rattle.dover_model.specs.declared.events.Task.{Task}
+use Rattle.dover_model.specs.Common.{Item}
 use Rattle.dover_model.specs.Lines.{cut, in_lines, lines_of, whole_lines, rest_of, is_too_long}
 use Rattle.dover_model.proofs.texts.Cuts.{CutText, onto, put_before, cut_append}
 use Rattle.dover_model.proofs.lists.Beginnings.{in_lines-append}
@@ -42,15 +43,15 @@ module _ (x : List ℕ) where
       ∙ long_next (reading_of (whole_lines x)) (rest_of x) long
 
   -- a snapshot is taken by its whole lines
-  pub whole_taken : (h : Head) (ts : List Task) → reading_of (lines_of x) ≡ Taken h ts
-      → reading_of (whole_lines x) ≡ Taken h ts
-  whole_taken h ts is = by (is_too_long (rest_of x)) refl where
-    by_reading : (r : Reading) → long_reading r ≡ Taken h ts → r ≡ Taken h ts
-    by_reading Begun e = absurd (let clash : Refused 1 ≡ Taken h ts = e in cc)
-    by_reading (Going g us) e = absurd (let clash : refused_behind us ≡ Taken h ts = e in cc)
+  pub whole_taken : (h : Head) (items : List Item) (ts : List Task) → reading_of (lines_of x) ≡ Taken h items ts
+      → reading_of (whole_lines x) ≡ Taken h items ts
+  whole_taken h items ts is = by (is_too_long (rest_of x)) refl where
+    by_reading : (r : Reading) → long_reading r ≡ Taken h items ts → r ≡ Taken h items ts
+    by_reading Begun e = absurd (let clash : Refused 1 ≡ Taken h items ts = e in cc)
+    by_reading (Going g js us) e = absurd (let clash : refused_behind js ≡ Taken h items ts = e in cc)
     by_reading _ e = e
 
-    by : (b : Bool) → is_too_long (rest_of x) ≡ b → reading_of (whole_lines x) ≡ Taken h ts
+    by : (b : Bool) → is_too_long (rest_of x) ≡ b → reading_of (whole_lines x) ≡ Taken h items ts
     by false short = ap reading_of (sym (only_whole short)) ∙ is
     by true long = by_reading (reading_of (whole_lines x)) (sym (long_lines long) ∙ is)
 
@@ -69,11 +70,11 @@ module _ (x : List ℕ) where
     reading_more = ap reading_of all_more ∙ reading_behind (whole_lines x) (more_lines (onto (rest_of x) (cut y)))
 
     -- a snapshot that is taken stays so
-    pub taken_on : (h : Head) (ts : List Task) → reading_of (lines_of x) ≡ Taken h ts
-        → reading_of (lines_of (x ++ y)) ≡ Taken h ts
-    taken_on h ts is = reading_more
-        ∙ ap (λ r. fold next_line r (more_lines (onto (rest_of x) (cut y)))) (whole_taken h ts is)
-        ∙ taken_stays h ts (more_lines (onto (rest_of x) (cut y)))
+    pub taken_on : (h : Head) (items : List Item) (ts : List Task) → reading_of (lines_of x) ≡ Taken h items ts
+        → reading_of (lines_of (x ++ y)) ≡ Taken h items ts
+    taken_on h items ts is = reading_more
+        ∙ ap (λ r. fold next_line r (more_lines (onto (rest_of x) (cut y)))) (whole_taken h items ts is)
+        ∙ taken_stays h items ts (more_lines (onto (rest_of x) (cut y)))
 
     -- a line that goes on from one that is too long is too long
     still_long : is_too_long (rest_of x) ≡ true → (l : List ℕ) → is_too_long (rest_of x ++ l) ≡ true
@@ -114,33 +115,34 @@ dropped : (front rest : List ℕ) → drop (length front) (front ++ rest) ≡ re
 dropped [] rest = refl
 dropped (b ∷ front) rest = dropped front rest
 
-module _ (x : List ℕ) (h : Head) (ts : List Task) (is : reading_of (lines_of x) ≡ Taken h ts) where
-  abbrev pub front : IsWholeFront h ts (whole_lines x)
-  front = taken_whole h ts (whole_lines x) (whole_taken x h ts is)
+module _ (x : List ℕ) (h : Head) (items : List Item) (ts : List Task)
+    (is : reading_of (lines_of x) ≡ Taken h items ts) where
+  abbrev pub front : IsWholeFront h items ts (whole_lines x)
+  front = taken_whole h items ts (whole_lines x) (whole_taken x h items ts is)
 
   -- its feed may pause
-  pub feed_may : MayPause (feed_of h ts)
-  feed_may = shortest_may h ts front.front front.whole
+  pub feed_may : MayPause (feed_of h items)
+  feed_may = shortest_may h items ts front.front front.whole
 
-  pub feed_text : snapshot (feed_of h ts) ≡ in_lines front.front
-  feed_text = shortest_text h ts front.front front.whole
+  pub feed_text : snapshot (feed_of h items) ≡ in_lines front.front
+  feed_text = shortest_text h items ts front.front front.whole
 
   -- the bytes are its snapshot, and what follows
-  first_part : x ≡ snapshot (feed_of h ts) ++ (in_lines front.more ++ rest_of x)
+  first_part : x ≡ snapshot (feed_of h items) ++ (in_lines front.more ++ rest_of x)
   first_part = sym (text_joined x) ∙ ap (λ ls. in_lines ls ++ rest_of x) front.cut
       ∙ ap (λ l. l ++ rest_of x) (in_lines-append front.front front.more)
       ∙ append_assoc (in_lines front.front) (in_lines front.more) (rest_of x)
       ∙ ap (λ l. l ++ (in_lines front.more ++ rest_of x)) (sym feed_text)
 
-  behind_is : behind_snapshot h ts x ≡ in_lines front.more ++ rest_of x
-  behind_is = ap (drop (length (snapshot (feed_of h ts)))) first_part
-      ∙ dropped (snapshot (feed_of h ts)) (in_lines front.more ++ rest_of x)
+  behind_is : behind_snapshot h items x ≡ in_lines front.more ++ rest_of x
+  behind_is = ap (drop (length (snapshot (feed_of h items)))) first_part
+      ∙ dropped (snapshot (feed_of h items)) (in_lines front.more ++ rest_of x)
 
-  pub parts_are : x ≡ snapshot (feed_of h ts) ++ behind_snapshot h ts x
-  parts_are = first_part ∙ ap (λ l. snapshot (feed_of h ts) ++ l) (sym behind_is)
+  pub parts_are : x ≡ snapshot (feed_of h items) ++ behind_snapshot h items x
+  parts_are = first_part ∙ ap (λ l. snapshot (feed_of h items) ++ l) (sym behind_is)
 
   -- more bytes come behind these
-  pub behind_on : (y : List ℕ) → behind_snapshot h ts (x ++ y) ≡ behind_snapshot h ts x ++ y
-  behind_on y = ap (λ l. behind_snapshot h ts (l ++ y)) parts_are
-      ∙ ap (behind_snapshot h ts) (append_assoc (snapshot (feed_of h ts)) (behind_snapshot h ts x) y)
-      ∙ dropped (snapshot (feed_of h ts)) (behind_snapshot h ts x ++ y)
+  pub behind_on : (y : List ℕ) → behind_snapshot h items (x ++ y) ≡ behind_snapshot h items x ++ y
+  behind_on y = ap (λ l. behind_snapshot h items (l ++ y)) parts_are
+      ∙ ap (behind_snapshot h items) (append_assoc (snapshot (feed_of h items)) (behind_snapshot h items x) y)
+      ∙ dropped (snapshot (feed_of h items)) (behind_snapshot h items x ++ y)

@@ -6,9 +6,11 @@ use Rattle.std.proofs.lemmas.List.Sums.{fold-append}
 use Rattle.std.proofs.lemmas.Slice.Eq.{bytes_eq-Decides}
 use Rattle.dover_model.specs.declared.events.Task.{Task}
 use Rattle.dover_model.specs.Lines.{lines_of, rest_of, is_too_long, fields_of, numbers_of}
+use Rattle.dover_model.specs.Common.{Item, early_at, line_of_fields}
 use Rattle.snapshot.specs.Snapshot.{Head}
 use Rattle.snapshot.specs.Reading.{Reading, Begun, Going, Taken, Refused, head_from, task_of_fields, read_task}
-use Rattle.snapshot.specs.Reading.{with_head, with_task, with_last, has_reached_mark, is_settled, refused_behind}
+use Rattle.snapshot.specs.Reading.{with_head, with_task, with_last, with_finish, with_other, has_lines_for, is_settled}
+use Rattle.snapshot.specs.Reading.{refused_behind, stored, read_done, done_of}
 use Rattle.snapshot.specs.Reading.{next_line, reading_of}
 use Rattle.snapshot.specs.Kept.{IsReading, IsReady, IsGoing, Answers}
 use Rattle.snapshot.specs.Spending.{jobs_read, jobs_kept}
@@ -39,39 +41,47 @@ not_last l long = by (bytes_eq l (codes "resume")) refl where
 -- what it makes of a reading: it is refused, unless the snapshot is whole or refused before
 abbrev pub long_reading : Reading → Reading
 long_reading Begun = Refused 1
-long_reading (Going h tasks) = refused_behind tasks
-long_reading (Taken h tasks) = Taken h tasks
+long_reading (Going h items tasks) = refused_behind items
+long_reading (Taken h items tasks) = Taken h items tasks
 long_reading (Refused at) = Refused at
+
+long_done : (l : List ℕ) → is_too_long l ≡ true → read_done l ≡ None
+long_done l long = ap (λ b. option_and_then done_of (cond b None (line_of_fields (fields_of l)))) long
 
 pub long_next : (r : Reading) (l : List ℕ) → is_too_long l ≡ true → next_line r l ≡ long_reading r
 long_next Begun l long =
     ap (λ b. with_head (cond b None (option_and_then head_from (numbers_of (codes "snapshot") l)))) long
-long_next (Going h tasks) l long = by (nat_lt (length tasks) h.jobs) where
-  by : (b : Bool) → cond b (with_task h tasks (read_task l)) (with_last h tasks (bytes_eq l (codes "resume"))) ≡ Refused
-      (length tasks + 2)
-  by true = ap (λ c. with_task h tasks (cond c None (task_of_fields (fields_of l)))) long
-  by false = ap (λ c. cond (c && has_reached_mark h tasks && is_settled h tasks) (Taken h tasks) (refused_behind tasks))
-      (not_last l long)
+long_next (Going h items tasks) l long = ap (λ o. elim o [
+  | None ↦ with_other h items tasks l
+  | Some done ↦ with_finish h items tasks (early_at (stored h items) done.0 done.1)
+]) (long_done l long) ∙ by (nat_lt (length tasks) h.jobs) where
+  by : (b : Bool)
+      → cond b (with_task h items tasks (read_task l)) (with_last h items tasks (bytes_eq l (codes "resume")))
+      ≡ Refused (length items + 2)
+  by true = ap (λ c. with_task h items tasks (cond c None (task_of_fields (fields_of l)))) long
+  by false = ap (λ c. cond (c && has_lines_for h items && is_settled h items tasks) (Taken h items tasks)
+      (refused_behind items)) (not_last l long)
 long_next _ l long = refl
 
 -- it is refused, where no line was before or the snapshot goes on
 pub long_refused : (r : Reading) (l : List ℕ) → is_too_long l ≡ true
-    → ((h : Head) (tasks : List Task) → r ≡ Taken h tasks → ⊥) → IsRefused (next_line r l)
+    → ((h : Head) (items : List Item) (tasks : List Task) → r ≡ Taken h items tasks → ⊥) → IsRefused (next_line r l)
 long_refused r l long never = by r (long_next r l long) never where
-  by : (r : Reading) → next_line r l ≡ long_reading r → ((h : Head) (tasks : List Task) → r ≡ Taken h tasks → ⊥)
+  by : (r : Reading) → next_line r l ≡ long_reading r
+      → ((h : Head) (items : List Item) (tasks : List Task) → r ≡ Taken h items tasks → ⊥)
       → IsRefused (next_line r l)
   by Begun is never = (1, is)
-  by (Going h tasks) is never = (length tasks + 2, is)
-  by (Taken h tasks) is never = absurd (never h tasks refl)
+  by (Going h items tasks) is never = (length items + 2, is)
+  by (Taken h items tasks) is never = absurd (never h items tasks refl)
   by (Refused at) is never = (at, is)
 
 -- what was read so far isn't taken
-reading_going : (o : Option Resuming) (ls : List (List ℕ)) → IsReading o ls → (h : Head) (tasks : List Task)
-    → reading_of ls ≡ Taken h tasks → ⊥
-reading_going None ls none h tasks taken =
-    absurd (let e : Begun ≡ Taken h tasks = sym (ap reading_of none) ∙ taken in cc)
-reading_going (Some r) ls it h tasks taken =
-    absurd (let e : Going it.0 it.1 ≡ Taken h tasks = sym it.2.reads ∙ taken in cc)
+reading_going : (o : Option Resuming) (ls : List (List ℕ)) → IsReading o ls → (h : Head) (items : List Item)
+    (tasks : List Task) → reading_of ls ≡ Taken h items tasks → ⊥
+reading_going None ls none h items tasks taken =
+    absurd (let e : Begun ≡ Taken h items tasks = sym (ap reading_of none) ∙ taken in cc)
+reading_going (Some r) ls it h items tasks taken =
+    absurd (let e : Going it.0 it.1 it.2 ≡ Taken h items tasks = sym it.3.reads ∙ taken in cc)
 
 -- so with the line it is refused
 pub with_long : (o : Option Resuming) (ls : List (List ℕ)) (l : List ℕ) → IsReading o ls → is_too_long l ≡ true
@@ -88,12 +98,12 @@ going_not None ls l refused none =
       long [] = omega arith
       long (x ∷ xs) = omega (arith, long xs)
 going_not (Some r) ls l refused it =
-    absurd (let e : Going it.0 it.1 ≡ Refused refused.0 = sym it.2.reads ∙ refused.1 in cc)
+    absurd (let e : Going it.0 it.1 it.2 ≡ Refused refused.0 = sym it.3.reads ∙ refused.1 in cc)
 
 ready_not : (o : Option Resuming) (ls : List (List ℕ)) → IsRefused (reading_of ls) → IsReady o ls → ⊥
 ready_not None ls refused it = it
 ready_not (Some r) ls refused it =
-    absurd (let e : Taken it.0 it.1 ≡ Refused refused.0 = sym it.2.reads ∙ refused.1 in cc)
+    absurd (let e : Taken it.0 it.1 it.2 ≡ Refused refused.0 = sym it.3.reads ∙ refused.1 in cc)
 
 -- ---- a byte
 

@@ -13,7 +13,7 @@ use Rattle.feed_words.specs.declared.resume.opening.Opening.{Opening}
 -- what is read on is a part
 reading_part : (o : Option Resuming) (ls : List (List ℕ)) → IsReading o ls → is_part (reading_of ls) ≡ true
 reading_part None ls none = ap (λ l. is_part (reading_of l)) none
-reading_part (Some r) ls it = ap is_part it.2.reads
+reading_part (Some r) ls it = ap is_part it.3.reads
 
 pub stands_part : (o : Opening) (x : List ℕ) → OpeningStands o x → IsPart x
 stands_part o x it = reading_part o.reader (lines_of x) it.reads

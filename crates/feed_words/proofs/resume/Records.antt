@@ -2,7 +2,7 @@
 use Rattle.std.proofs.Common.{◌≡◌, ℕ, suc, List, [], ◌∷◌, ◌++◌, length, refl, sym, ap, ◌∙◌, subst, false, inl, inr}
 use Rattle.std.proofs.Common.{arith, length-append, append-nil}
 use Rattle.dover_model.specs.declared.events.Task.{Task}
-use Rattle.dover_model.specs.Common.{lines_of, whole_lines, Begins}
+use Rattle.dover_model.specs.Common.{Item, lines_of, whole_lines, Begins}
 use Rattle.dover_model.proofs.lists.Tests.{never}
 use Rattle.dover_port.specs.Moves.{Move, ins, outs, has_ended, IsProperPrefix}
 use Rattle.dover_port.specs.declared.status.Status.{Status}
@@ -39,10 +39,11 @@ module _ (a : Asked) where
   may_read got put may = by (reading_of (lines_of got)) refl where
     by : (r : Reading) → reading_of (lines_of got) ≡ r → MayRead a.at_end got put
     by Begun is = inl (ap is_part is, may.0 ∙ due_at a got Begun is)
-    by (Going h ts) is = inl (ap is_part is, may.0 ∙ due_at a got (Going h ts) is)
-    by (Taken h ts) is = inr (past got h ts is (λ F H. talk.MayRead (serve_talk a.at_end F) H put)
-        (λ F other same. may_same (feed_of h ts) F (behind_snapshot h ts got) (feed_may got h ts is) other same a.at_end
-        put (may.0 ∙ due_at a got (Taken h ts) is, sym (goes_at a got (Taken h ts) is) ∙ may.1)))
+    by (Going h items ts) is = inl (ap is_part is, may.0 ∙ due_at a got (Going h items ts) is)
+    by (Taken h items ts) is = inr (past got h items ts is (λ F H. talk.MayRead (serve_talk a.at_end F) H put)
+        (λ F other same. may_same (feed_of h items) F (behind_snapshot h items got) (feed_may got h items ts is)
+        other same a.at_end
+        put (may.0 ∙ due_at a got (Taken h items ts) is, sym (goes_at a got (Taken h items ts) is) ∙ may.1)))
     by (reading.Refused at) is = never (sym (goes_at a got (reading.Refused at) is) ∙ may.1)
 
   -- ---- at the end
@@ -55,20 +56,21 @@ module _ (a : Asked) where
     says = reading_of (lines_of x)
 
     -- behind a whole snapshot, by one feed with it
-    past_ends : (h : Head) (ts : List Task) → says ≡ Taken h ts → (status : Status)
-        → talk.Ends (serve_talk a.at_end (feed_of h ts)) status (behind_snapshot h ts x) (outs moves) (has_ended moves)
+    past_ends : (h : Head) (items : List Item) (ts : List Task) → says ≡ Taken h items ts → (status : Status)
+        → talk.Ends (serve_talk a.at_end (feed_of h items)) status (behind_snapshot h items x) (outs moves)
+        (has_ended moves)
         → Ends a.at_end status moves
-    past_ends h ts is status it = inr (past x h ts is
+    past_ends h items ts is status it = inr (past x h items ts is
         (λ F H. talk.Ends (serve_talk a.at_end F) status H (outs moves) (has_ended moves))
-        (λ F other same. ends_same (feed_of h ts) F (behind_snapshot h ts x) (feed_may x h ts is) other same
+        (λ F other same. ends_same (feed_of h items) F (behind_snapshot h items x) (feed_may x h items ts is) other same
         a.at_end (outs moves) (has_ended moves) status it))
 
     -- a line is refused, by what the lines say
     refused_for : (r : Reading) → says ≡ r → (status : Status) (text : List ℕ)
         → IsAnsweredBy a.at_end r x (has_ended moves) status text
-        → (is_taken : (h : Head) (ts : List Task) → r ≡ Taken h ts → ⊥)
+        → (is_taken : (h : Head) (items : List Item) (ts : List Task) → r ≡ Taken h items ts → ⊥)
         → (at : ℕ) × IsRefusedFor at moves × IsRefusedAs at status text
-    refused_for (Taken h ts) is status text it not = absurd (not h ts refl)
+    refused_for (Taken h items ts) is status text it not = absurd (not h items ts refl)
     refused_for (reading.Refused at) is status text it not =
         (at, inl (x, ([], sym (append-nil x)), is), it)
     refused_for _ is status text it not = (suc (length (whole_lines x)), inr (it.0, ap is_part is, refl), it.1)
@@ -79,33 +81,34 @@ module _ (a : Asked) where
     refused_before Refused it = inl (record { at = it.0; cause = it.1; text = it.2 })
     refused_before _ it = absurd it.2
 
-    served_ends : (h : Head) (ts : List Task) → says ≡ Taken h ts → (status : Status)
-        → talk.IsAnswered (serve_talk a.at_end (feed_of h ts)) (behind_snapshot h ts x) (outs moves) (has_ended moves)
+    served_ends : (h : Head) (items : List Item) (ts : List Task) → says ≡ Taken h items ts → (status : Status)
+        → talk.IsAnswered (serve_talk a.at_end (feed_of h items)) (behind_snapshot h items x) (outs moves)
+        (has_ended moves)
         status
         → Ends a.at_end status moves
-    served_ends h ts is Done it = past_ends h ts is Done it
-    served_ends h ts is Refused it = past_ends h ts is Refused it
-    served_ends h ts is No it = past_ends h ts is No it
-    served_ends h ts is _ it = absurd it.answer
+    served_ends h items ts is Done it = past_ends h items ts is Done it
+    served_ends h items ts is Refused it = past_ends h items ts is Refused it
+    served_ends h items ts is No it = past_ends h items ts is No it
+    served_ends h items ts is _ it = absurd it.answer
 
     answer_ends : (status : Status) → talk.IsAnswered (resume_talk a) x (outs moves) (has_ended moves) status
         → Ends a.at_end status moves
     answer_ends status it = by says refl it.answer where
       by : (r : Reading) → says ≡ r → IsAnsweredBy a.at_end r x (has_ended moves) status (outs moves)
           → Ends a.at_end status moves
-      by (Taken h ts) is answer = served_ends h ts is status
-          (record { over = sym (goes_at a x (Taken h ts) is) ∙ it.over; answer = answer })
+      by (Taken h items ts) is answer = served_ends h items ts is status
+          (record { over = sym (goes_at a x (Taken h items ts) is) ∙ it.over; answer = answer })
       by r is answer = refused_before status (refused_for r is status (outs moves) answer
-          (λ h ts e. absurd (let clash : r ≡ Taken h ts = e in cc)))
+          (λ h items ts e. absurd (let clash : r ≡ Taken h items ts = e in cc)))
 
     -- a read failed
     unread_ends : talk.IsUnread (resume_talk a) x (outs moves) (has_ended moves) → Ends a.at_end ReadFault moves
     unread_ends it = by says refl where
       by : (r : Reading) → says ≡ r → Ends a.at_end ReadFault moves
-      by (Taken h ts) is = past_ends h ts is ReadFault (record {
+      by (Taken h items ts) is = past_ends h items ts is ReadFault (record {
         unended = it.unended;
-        open_still = sym (goes_at a x (Taken h ts) is) ∙ it.open_still;
-        text = it.text ∙ due_at a x (Taken h ts) is;
+        open_still = sym (goes_at a x (Taken h items ts) is) ∙ it.open_still;
+        text = it.text ∙ due_at a x (Taken h items ts) is;
       })
       by (reading.Refused at) is = never (sym (goes_at a x (reading.Refused at) is) ∙ it.open_still)
       by r is = inl (record { unended = it.unended; part = ap is_part is; text = it.text ∙ due_at a x r is })
@@ -121,15 +124,15 @@ module _ (a : Asked) where
     cut_ends it = by says refl it.answer where
       by : (r : Reading) → says ≡ r → IsAnsweredBy a.at_end r x (has_ended moves) it.status it.text
           → Ends a.at_end WriteFault moves
-      by (Taken h ts) is answer = past_ends h ts is WriteFault (inr (record {
-        over = sym (goes_at a x (Taken h ts) is) ∙ it.over;
+      by (Taken h items ts) is answer = past_ends h items ts is WriteFault (inr (record {
+        over = sym (goes_at a x (Taken h items ts) is) ∙ it.over;
         status = it.status;
         text = it.text;
         answer = answer;
         front = it.front;
       }))
       by r is answer = cut_before it.status it.text (refused_for r is it.status it.text answer
-          (λ h ts e. absurd (let clash : r ≡ Taken h ts = e in cc))) it.front
+          (λ h items ts e. absurd (let clash : r ≡ Taken h items ts = e in cc))) it.front
 
     due_ends : has_ended moves ≡ false → IsProperPrefix (outs moves) ((resume_talk a).due x)
         → Ends a.at_end WriteFault moves
@@ -138,8 +141,8 @@ module _ (a : Asked) where
       none nothing = none_shorter (outs moves) (subst (IsProperPrefix (outs moves)) nothing part)
 
       by : (r : Reading) → says ≡ r → Ends a.at_end WriteFault moves
-      by (Taken h ts) is = past_ends h ts is WriteFault
-          (inl (unended, subst (IsProperPrefix (outs moves)) (due_at a x (Taken h ts) is) part))
+      by (Taken h items ts) is = past_ends h items ts is WriteFault
+          (inl (unended, subst (IsProperPrefix (outs moves)) (due_at a x (Taken h items ts) is) part))
       by r is = none (due_at a x r is)
 
     -- there was no memory
@@ -155,12 +158,13 @@ module _ (a : Asked) where
       })
 
       by : (r : Reading) → says ≡ r → LacksBy r x → Ends a.at_end Memory moves
-      by (Taken h ts) is begun = past_ends h ts is Memory (record {
+      by (Taken h items ts) is begun = past_ends h items ts is Memory (record {
         lacking = (
           it.lacking.0,
-          declared_front (feed_of h ts) (behind_snapshot h ts x) (named (feed_of h ts) (feed_may x h ts is)),
+          declared_front (feed_of h items) (behind_snapshot h items x)
+              (named (feed_of h items) (feed_may x h items ts is)),
         );
-        text = subst (Begins (outs moves)) (due_at a x (Taken h ts) is) it.text;
+        text = subst (Begins (outs moves)) (due_at a x (Taken h items ts) is) it.text;
       })
       by r is begun = before begun (due_at a x r is)
 

@@ -4,7 +4,7 @@ use Rattle.std.proofs.Common.{subst, append_assoc, append-nil, arith, Bool, true
 use Rattle.std.proofs.Common.{Result, Ok, Err, take-append-drop}
 use Rattle.dover_model.specs.declared.Memory.{Memory as Lacking}
 use Rattle.dover_model.specs.declared.events.Task.{Task}
-use Rattle.dover_model.specs.Common.{in_lines, lines_of, whole_lines, due_lines, account, is_open, Begins}
+use Rattle.dover_model.specs.Common.{Item, in_lines, lines_of, whole_lines, due_lines, account, is_open, Begins}
 use Rattle.dover_model.proofs.lists.Tests.{never}
 use Rattle.dover_port.specs.Moves.{Move}
 use Rattle.dover_port.specs.declared.status.Status.{Status}
@@ -46,24 +46,24 @@ use Rattle.feed_words.proofs.resume.Talking.{goes_at, due_at, call_of, past_cost
 -- ---- a part of a snapshot
 
 pub part_due : (r : Reading) → is_part r ≡ true → (x : List ℕ) → due_by r x ≡ []
-part_due (Taken h ts) part x = never part
+part_due (Taken h items ts) part x = never part
 part_due _ part x = refl
 
 part_goes : (r : Reading) → is_part r ≡ true → (x : List ℕ) → goes_by r x ≡ true
 part_goes Begun part x = refl
-part_goes (Going h ts) part x = refl
+part_goes (Going h items ts) part x = refl
 part_goes _ part x = never part
 
 part_answer : (at_end : AtEnd) (r : Reading) → is_part r ≡ true → (x : List ℕ) (at : ℕ)
     → at ≡ suc (length (whole_lines x))
     → (ended : Bool) → ended ≡ true → IsAnsweredBy at_end r x ended status.Refused (refused_text at)
 part_answer at_end Begun part x at is ended e = (e, ap refused_text is)
-part_answer at_end (Going h ts) part x at is ended e = (e, ap refused_text is)
+part_answer at_end (Going h items ts) part x at is ended e = (e, ap refused_text is)
 part_answer at_end _ part x at is ended e = never part
 
 -- where a front has begun a snapshot, memory may be lacking
 lacks_from : (r : Reading) (x : List ℕ) → HasBegun x → LacksBy r x
-lacks_from (Taken h ts) x it = tt
+lacks_from (Taken h items ts) x it = tt
 lacks_from _ x it = it
 
 -- a front of a piece is one of all bytes
@@ -155,18 +155,19 @@ refused_took a o x was E e piece some at now refused few =
 -- ---- a whole snapshot
 
 -- its first line and its jobs
-ready_whole : (o : Option Resuming) (ls : List (List ℕ)) → IsReady o ls → (h : Head) × (ts : List Task)
-    × IsWhole h ts ls
+ready_whole : (o : Option Resuming) (ls : List (List ℕ)) → IsReady o ls → (h : Head) × (items : List Item)
+    × (ts : List Task) × IsWhole h items ts ls
 ready_whole None ls none = absurd none
-ready_whole (Some r) ls it = (it.0, it.1, it.2)
+ready_whole (Some r) ls it = (it.0, it.1, it.2, it.3)
 
 -- the bytes are the snapshot of the feed that stands for all with it
 pub record IsOpened (y : List ℕ) : Type 0 where
   pub head : Head
+  pub items : List Item
   pub tasks : List Task
-  pub reads : reading_of (lines_of y) ≡ Taken head tasks
-  pub text : snapshot (feed_of head tasks) ≡ in_lines (lines_of y)
-  pub behind : behind_snapshot head tasks y ≡ []
+  pub reads : reading_of (lines_of y) ≡ Taken head items tasks
+  pub text : snapshot (feed_of head items) ≡ in_lines (lines_of y)
+  pub behind : behind_snapshot head items y ≡ []
 
 all_dropped : (xs : List ℕ) → drop (length xs) xs ≡ []
 all_dropped [] = refl
@@ -176,11 +177,12 @@ pub opened_is : (o : Opening) (y : List ℕ) → IsWholeAt o y → IsOpened y
 opened_is o y it =
     let whole = ready_whole o.reader (lines_of y) it.1 in
     let text : snapshot (feed_of whole.0 whole.1) ≡ in_lines (lines_of y) =
-    shortest_text whole.0 whole.1 (lines_of y) whole.2 in
+    shortest_text whole.0 whole.1 whole.2 (lines_of y) whole.3 in
     record {
       head = whole.0;
-      tasks = whole.1;
-      reads = whole.2.reads;
+      items = whole.1;
+      tasks = whole.2;
+      reads = whole.3.reads;
       text = text;
       behind = ap (λ l. drop (length l) y) (text ∙ lines_again y it.0) ∙ all_dropped y;
     }
@@ -204,20 +206,22 @@ giving_none c f k now x it = record {
 module _ (a : Asked) (y : List ℕ) (it : IsOpened y) where
   -- the call that goes on with its feed
   abbrev pub opened_call : Call
-  opened_call = call_of a.start y it.head it.tasks it.reads
+  opened_call = call_of a.start y it.head it.items it.tasks it.reads
 
   pub opened_due : (resume_talk a).due y ≡ []
-  opened_due = due_at a y (Taken it.head it.tasks) it.reads ∙ ap (due_behind (feed_of it.head it.tasks)) it.behind
+  opened_due = due_at a y (Taken it.head it.items it.tasks) it.reads ∙ ap (due_behind (feed_of it.head it.items))
+      it.behind
       ∙ (steady opened_call a.at_end).nothing
 
   pub opened_giving : (f : Feed) (k : Kept) (now : ℕ) → serve.IsListed opened_call f k now []
       → IsPast a.start y (λ c H. serve.IsListing c f k now H [])
   opened_giving f k now ready = record {
     head = it.head;
+    items = it.items;
     tasks = it.tasks;
     reads = it.reads;
-    goes = (feed_may y it.head it.tasks it.reads).going_on;
-    holds = giving_none opened_call f k now (behind_snapshot it.head it.tasks y)
+    goes = (feed_may y it.head it.items it.tasks it.reads).going_on;
+    holds = giving_none opened_call f k now (behind_snapshot it.head it.items y)
         (subst (serve.IsListed opened_call f k now) (sym it.behind) ready);
   }
 
@@ -229,7 +233,7 @@ module _ (a : Asked) (y : List ℕ) (it : IsOpened y) where
   whole_took o x was E e piece n some fits is (stage.Opening p) reader now gone spent = absurd gone
   whole_took o x was E e piece n some fits is (stage.Refused at) reader now gone spent = absurd gone
   whole_took o x was E e piece n some fits is (stage.Serving s) reader now on spent =
-      let ready = on opened_call now (feed_may y it.head it.tasks it.reads) it.text spent in took a
+      let ready = on opened_call now (feed_may y it.head it.items it.tasks it.reads) it.text spent in took a
       (λ z parts. E × IsGiving a (stage.Serving s) now z parts) x piece n some fits
       (opening_due a o x was) (subst (λ z. (resume_talk a).due z ≡ []) is opened_due) (
         e,
@@ -242,31 +246,32 @@ module _ (a : Asked) (y : List ℕ) (it : IsOpened y) where
 module _ (a : Asked) (x : List ℕ) (T : Call → List ℕ → Type 0) (at : IsPast a.start x T) where
   -- the call, and the bytes behind the snapshot
   abbrev pub past_call : Call
-  past_call = record { feed = feed_of at.head at.tasks; goes_on = at.goes; start = a.start }
+  past_call = record { feed = feed_of at.head at.items; goes_on = at.goes; start = a.start }
 
   abbrev pub past_bytes : List ℕ
-  past_bytes = behind_snapshot at.head at.tasks x
+  past_bytes = behind_snapshot at.head at.items x
 
-  pub past_goes : (resume_talk a).goes_on x ≡ is_open (account (feed_of at.head at.tasks ++ past_bytes))
-  past_goes = goes_at a x (Taken at.head at.tasks) at.reads
+  pub past_goes : (resume_talk a).goes_on x ≡ is_open (account (feed_of at.head at.items ++ past_bytes))
+  past_goes = goes_at a x (Taken at.head at.items at.tasks) at.reads
 
-  past_due : (resume_talk a).due x ≡ due_behind (feed_of at.head at.tasks) past_bytes
-  past_due = due_at a x (Taken at.head at.tasks) at.reads
+  past_due : (resume_talk a).due x ≡ due_behind (feed_of at.head at.items) past_bytes
+  past_due = due_at a x (Taken at.head at.items at.tasks) at.reads
 
   -- something else holds of it
   pub past_with : (U : Call → List ℕ → Type 0) → U past_call past_bytes → IsPast a.start x U
-  past_with U it = record { head = at.head; tasks = at.tasks; reads = at.reads; goes = at.goes; holds = it }
+  past_with U it = record
+      { head = at.head; items = at.items; tasks = at.tasks; reads = at.reads; goes = at.goes; holds = it }
 
   pub past_spent : (now : ℕ) → Costs past_call now past_bytes → IsFrugalFor a.start now x
-  past_spent now it = past_costs x at.head at.tasks at.reads a.start now it
+  past_spent now it = past_costs x at.head at.items at.tasks at.reads a.start now it
 
   -- a piece more
   module _ (piece : List ℕ) (f : Feed) (k : Kept) (now : ℕ) (E : Type 0) (e : E) where
-    behind_more : (more : List ℕ) → behind_snapshot at.head at.tasks (x ++ more) ≡ past_bytes ++ more
-    behind_more more = behind_on x at.head at.tasks at.reads more
+    behind_more : (more : List ℕ) → behind_snapshot at.head at.items (x ++ more) ≡ past_bytes ++ more
+    behind_more more = behind_on x at.head at.items at.tasks at.reads more
 
-    reads_more : (more : List ℕ) → reading_of (lines_of (x ++ more)) ≡ Taken at.head at.tasks
-    reads_more more = taken_on x more at.head at.tasks at.reads
+    reads_more : (more : List ℕ) → reading_of (lines_of (x ++ more)) ≡ Taken at.head at.items at.tasks
+    reads_more more = taken_on x more at.head at.items at.tasks at.reads
 
     pub past_takes : (r : Result ℕ Lacking)
         → TakesBy (serve_talk Pause past_call.feed)
@@ -280,13 +285,14 @@ module _ (a : Asked) (x : List ℕ) (T : Call → List ℕ → Type 0) (at : IsP
       it.1,
       (
         it.2.0,
-        due_at a (x ++ take n piece) (Taken at.head at.tasks) (reads_more (take n piece))
-            ∙ ap (due_behind (feed_of at.head at.tasks)) (behind_more (take n piece)) ∙ it.2.1
+        due_at a (x ++ take n piece) (Taken at.head at.items at.tasks) (reads_more (take n piece))
+            ∙ ap (due_behind (feed_of at.head at.items)) (behind_more (take n piece)) ∙ it.2.1
             ∙ ap (λ l. l ++ joined it.2.0) (sym past_due),
         (
           e,
           record {
             head = at.head;
+            items = at.items;
             tasks = at.tasks;
             reads = reads_more (take n piece);
             goes = at.goes;
@@ -298,7 +304,7 @@ module _ (a : Asked) (x : List ℕ) (T : Call → List ℕ → Type 0) (at : IsP
     )
     past_takes (Err l) it = (
       (refl, subst (λ r. LacksBy r (x ++ piece)) (sym (reads_more piece)) tt),
-      past_costs (x ++ piece) at.head at.tasks (reads_more piece) a.start now
+      past_costs (x ++ piece) at.head at.items at.tasks (reads_more piece) a.start now
           (subst (λ H. Costs past_call now H) (sym (behind_more piece)) it.1),
     )
 
@@ -319,12 +325,12 @@ module _ (a : Asked) (x : List ℕ) (T : Call → List ℕ → Type 0) (at : IsP
 
   -- the answer
   served_answer : (status : Status) (text : List ℕ) (ended : Bool)
-      → (serve_talk a.at_end (feed_of at.head at.tasks)).answer past_bytes ended status
-      (due_behind (feed_of at.head at.tasks) past_bytes ++ text)
+      → (serve_talk a.at_end (feed_of at.head at.items)).answer past_bytes ended status
+      (due_behind (feed_of at.head at.items) past_bytes ++ text)
       → (resume_talk a).answer x ended status ((resume_talk a).due x ++ text)
   served_answer status text ended it =
       subst (λ r. IsAnsweredBy a.at_end r x ended status ((resume_talk a).due x ++ text)) (sym at.reads)
-      (subst (λ l. (serve_talk a.at_end (feed_of at.head at.tasks)).answer past_bytes ended status (l ++ text))
+      (subst (λ l. (serve_talk a.at_end (feed_of at.head at.items)).answer past_bytes ended status (l ++ text))
       (sym past_due) it)
 
   pub past_answers : (ended : Bool) (old new : Option (List Move)) (after : List ℕ) (r : Result Status Stop)

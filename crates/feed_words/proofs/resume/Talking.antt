@@ -1,9 +1,8 @@
 -- A snapshot that is read, and its feed behind it, as a talk.
 use Rattle.std.proofs.Common.{◌≡◌, ◌<◌, ◌≤◌, ◌*◌, ◌^◌, ◌-◌, ℕ, List, [], ◌∷◌, ◌++◌, length, refl, sym, ap, ◌∙◌, subst}
 use Rattle.std.proofs.Common.{append_assoc, length-append, arith, true, false, inl, inr, codes}
-use Rattle.std.proofs.lemmas.List.{length-map}
 use Rattle.dover_model.specs.declared.events.Task.{Task}
-use Rattle.dover_model.specs.Common.{in_lines, lines_of, account, is_open, Begins, CostsAtMost}
+use Rattle.dover_model.specs.Common.{Item, in_lines, lines_of, account, is_open, Begins, CostsAtMost}
 use Rattle.dover_model.proofs.lists.Beginnings.{in_lines-append}
 use Rattle.dover_model.proofs.lists.Tests.{never}
 use Rattle.line_text.proofs.Lengths.{AreNotTooLong}
@@ -12,23 +11,23 @@ use Rattle.dialogue.specs.Talk.{IsSteady}
 use Rattle.dover_model.proofs.runs.Spending.{few_more}
 use Rattle.event_feed.specs.Answers.{admitted_in}
 use Rattle.event_feed.proofs.Admitting.{admitted_front}
-use Rattle.snapshot.specs.Snapshot.{MayPause, Head, state_line, snapshot}
+use Rattle.snapshot.specs.Snapshot.{MayPause, Head, snapshot}
 use Rattle.snapshot.specs.Reading.{Reading, Begun, Going, Taken, Refused, reading_of}
-use Rattle.snapshot.proofs.Beginning.{Within, within}
 use Rattle.feed_words.specs.serve.Keeping.{Call, due_behind, serve_talk}
 use Rattle.feed_words.proofs.serve.Talking.{steady}
 use Rattle.feed_words.specs.resume.Record.{Behind, IsFrugalFor}
 use Rattle.feed_words.specs.resume.Talk.{Asked, feed_of, behind_snapshot, goes_by, due_by, IsAnsweredBy, HasBegun}
 use Rattle.feed_words.specs.resume.Talk.{LacksBy, resume_talk}
-use Rattle.feed_words.proofs.resume.Bounds.{short_lines}
+use Rattle.feed_words.proofs.resume.Bounds.{short_lines, lines_few}
 use Rattle.feed_words.proofs.resume.Equally.{admitted_same}
 use Rattle.feed_words.proofs.resume.Onward.{taken_on, refused_on, front, feed_may, feed_text, parts_are, behind_on}
 use Rattle.feed_words.proofs.resume.Parts.{behind}
 
 -- the call of the feed that stands for all with a snapshot
-abbrev pub call_of : (start : ℕ) (x : List ℕ) (h : Head) (ts : List Task) → reading_of (lines_of x) ≡ Taken h ts → Call
-call_of start x h ts is =
-    record { feed = feed_of h ts; goes_on = (feed_may x h ts is).going_on; start = start }
+abbrev pub call_of : (start : ℕ) (x : List ℕ) (h : Head) (items : List Item) (ts : List Task)
+    → reading_of (lines_of x) ≡ Taken h items ts → Call
+call_of start x h items ts is =
+    record { feed = feed_of h items; goes_on = (feed_may x h items ts is).going_on; start = start }
 
 module _ (a : Asked) (x : List ℕ) where
   -- by what the lines say
@@ -48,39 +47,41 @@ begun_more x y it = (
 
 module _ (a : Asked) (x y : List ℕ) where
   -- bytes behind a whole snapshot
-  module _ (h : Head) (ts : List Task) (is : reading_of (lines_of x) ≡ Taken h ts) where
+  module _ (h : Head) (items : List Item) (ts : List Task) (is : reading_of (lines_of x) ≡ Taken h items ts) where
     abbrev call : Call
-    call = call_of a.start x h ts is
+    call = call_of a.start x h items ts is
 
     abbrev H : List ℕ
-    H = behind_snapshot h ts x
+    H = behind_snapshot h items x
 
-    serves : IsSteady (serve_talk a.at_end (feed_of h ts))
+    serves : IsSteady (serve_talk a.at_end (feed_of h items))
     serves = steady call a.at_end
 
-    more_is : reading_of (lines_of (x ++ y)) ≡ Taken h ts
-    more_is = taken_on x y h ts is
+    more_is : reading_of (lines_of (x ++ y)) ≡ Taken h items ts
+    more_is = taken_on x y h items ts is
 
-    due_more : (resume_talk a).due (x ++ y) ≡ due_behind (feed_of h ts) (H ++ y)
-    due_more = due_at a (x ++ y) (Taken h ts) more_is ∙ ap (due_behind (feed_of h ts)) (behind_on x h ts is y)
+    due_more : (resume_talk a).due (x ++ y) ≡ due_behind (feed_of h items) (H ++ y)
+    due_more = due_at a (x ++ y) (Taken h items ts) more_is ∙ ap (due_behind (feed_of h items))
+        (behind_on x h items ts is y)
 
-    goes_more : (resume_talk a).goes_on (x ++ y) ≡ is_open (account (feed_of h ts ++ (H ++ y)))
-    goes_more = goes_at a (x ++ y) (Taken h ts) more_is
-        ∙ ap (λ l. is_open (account (feed_of h ts ++ l))) (behind_on x h ts is y)
+    goes_more : (resume_talk a).goes_on (x ++ y) ≡ is_open (account (feed_of h items ++ (H ++ y)))
+    goes_more = goes_at a (x ++ y) (Taken h items ts) more_is
+        ∙ ap (λ l. is_open (account (feed_of h items ++ l))) (behind_on x h items ts is y)
 
     grows_past : Begins ((resume_talk a).due x) ((resume_talk a).due (x ++ y))
     grows_past = let it = serves.grows H y in
-        (it.0, due_more ∙ it.1 ∙ ap (λ l. l ++ it.0) (sym (due_at a x (Taken h ts) is)))
+        (it.0, due_more ∙ it.1 ∙ ap (λ l. l ++ it.0) (sym (due_at a x (Taken h items ts) is)))
 
-    closed_past : (resume_talk a).goes_on x ≡ false → is_open (account (feed_of h ts ++ H)) ≡ false
-    closed_past over = sym (goes_at a x (Taken h ts) is) ∙ over
+    closed_past : (resume_talk a).goes_on x ≡ false → is_open (account (feed_of h items ++ H)) ≡ false
+    closed_past over = sym (goes_at a x (Taken h items ts) is) ∙ over
 
     answered_past : (resume_talk a).goes_on x ≡ false → (status : Status) (text : List ℕ)
         → IsAnsweredBy a.at_end (reading_of (lines_of x)) x false status text
         → IsAnsweredBy a.at_end (reading_of (lines_of (x ++ y))) (x ++ y) false status text
     answered_past over status text it =
         subst (λ r. IsAnsweredBy a.at_end r (x ++ y) false status text) (sym more_is)
-        (subst (λ l. (serve_talk a.at_end (feed_of h ts)).answer l false status text) (sym (behind_on x h ts is y))
+        (subst (λ l. (serve_talk a.at_end (feed_of h items)).answer l false status text)
+        (sym (behind_on x h items ts is y))
         (serves.answered H y status text (closed_past over)
         (subst (λ r. IsAnsweredBy a.at_end r x false status text) is it)))
 
@@ -90,38 +91,40 @@ module _ (a : Asked) (x y : List ℕ) where
 
   grows : (r : Reading) → reading_of (lines_of x) ≡ r → Begins ((resume_talk a).due x) ((resume_talk a).due (x ++ y))
   grows Begun is = grows_none (due_at a x Begun is)
-  grows (Going h ts) is = grows_none (due_at a x (Going h ts) is)
-  grows (Taken h ts) is = grows_past h ts is
+  grows (Going h items ts) is = grows_none (due_at a x (Going h items ts) is)
+  grows (Taken h items ts) is = grows_past h items ts is
   grows (Refused at) is = grows_none (due_at a x (Refused at) is)
 
   stays : (r : Reading) → reading_of (lines_of x) ≡ r → (resume_talk a).goes_on x ≡ false
       → (resume_talk a).goes_on (x ++ y) ≡ false
   stays Begun is over = never (sym over ∙ goes_at a x Begun is)
-  stays (Going h ts) is over = never (sym over ∙ goes_at a x (Going h ts) is)
-  stays (Taken h ts) is over = goes_more h ts is ∙ (serves h ts is).stays (H h ts is) y (closed_past h ts is over)
+  stays (Going h items ts) is over = never (sym over ∙ goes_at a x (Going h items ts) is)
+  stays (Taken h items ts) is over = goes_more h items ts is ∙ (serves h items ts is).stays (H h items ts is) y
+      (closed_past h items ts is over)
   stays (Refused at) is over = goes_at a (x ++ y) (Refused at) (refused_on x y at is)
 
   answered : (r : Reading) → reading_of (lines_of x) ≡ r → (resume_talk a).goes_on x ≡ false
       → (status : Status) (text : List ℕ) → IsAnsweredBy a.at_end (reading_of (lines_of x)) x false status text
       → IsAnsweredBy a.at_end (reading_of (lines_of (x ++ y))) (x ++ y) false status text
   answered Begun is over status text it = never (sym over ∙ goes_at a x Begun is)
-  answered (Going h ts) is over status text it = never (sym over ∙ goes_at a x (Going h ts) is)
-  answered (Taken h ts) is over status text it = answered_past h ts is over status text it
+  answered (Going h items ts) is over status text it = never (sym over ∙ goes_at a x (Going h items ts) is)
+  answered (Taken h items ts) is over status text it = answered_past h items ts is over status text it
   answered (Refused at) is over status text it =
       subst (λ r. IsAnsweredBy a.at_end r (x ++ y) false status text) (sym (refused_on x y at is))
       (subst (λ r. IsAnsweredBy a.at_end r x false status text) is it)
 
   -- where the snapshot isn't whole
   begun_on : (r : Reading) → reading_of (lines_of x) ≡ r → LacksBy r x
-      → ((h : Head) (ts : List Task) → reading_of (lines_of (x ++ y)) ≡ Taken h ts → ⊥) → HasBegun (x ++ y)
-  begun_on (Taken h ts) is it untaken = absurd (untaken h ts (taken_on x y h ts is))
+      → ((h : Head) (items : List Item) (ts : List Task) → reading_of (lines_of (x ++ y)) ≡ Taken h items ts → ⊥)
+      → HasBegun (x ++ y)
+  begun_on (Taken h items ts) is it untaken = absurd (untaken h items ts (taken_on x y h items ts is))
   begun_on _ is it untaken = begun_more x y it
 
   lacks_on : LacksBy (reading_of (lines_of x)) x → (r : Reading) → reading_of (lines_of (x ++ y)) ≡ r
       → LacksBy r (x ++ y)
-  lacks_on it (Taken h ts) is = tt
+  lacks_on it (Taken h items ts) is = tt
   lacks_on it r is = begun_on (reading_of (lines_of x)) refl it
-      (λ h ts taken. absurd (let clash : r ≡ Taken h ts = sym is ∙ taken in cc))
+      (λ h items ts taken. absurd (let clash : r ≡ Taken h items ts = sym is ∙ taken in cc))
 
 pub resume_steady : (a : Asked) → IsSteady (resume_talk a)
 resume_steady a = record {
@@ -146,46 +149,44 @@ lines_bytes (l ∷ ls) short = omega (
   length-append l (10 ∷ []),
 )
 
-module _ (x : List ℕ) (h : Head) (ts : List Task) (is : reading_of (lines_of x) ≡ Taken h ts) where
-  snapshot_bytes : length (snapshot (feed_of h ts)) < 520_000_000_000
+module _ (x : List ℕ) (h : Head) (items : List Item) (ts : List Task)
+    (is : reading_of (lines_of x) ≡ Taken h items ts) where
+  snapshot_bytes : length (snapshot (feed_of h items)) < 520_000_000_000
   snapshot_bytes =
-      let it = (front x h ts is).whole in
-      let limits : Within h = within h it.read.limits in
-      let jobs : h.jobs ≤ 4_000_000_000 = omega (arith, limits.jobs) in omega (
+      let it = (front x h items ts is).whole in omega (
         arith,
-        jobs,
-        it.all,
-        ap length (feed_text x h ts is ∙ ap in_lines it.text ∙ in_lines-append it.front (codes "resume" ∷ [])),
+        ap length (feed_text x h items ts is ∙ ap in_lines it.text ∙ in_lines-append it.front (codes "resume" ∷ [])),
         length-append (in_lines it.front) (in_lines (codes "resume" ∷ [])),
-        lines_bytes it.front (short_lines it.front Begun h ts it.read.reads),
-        ap length it.read.text,
-        length-map ts (λ (t : Task). state_line t),
+        lines_bytes it.front (short_lines it.front Begun h items ts it.read.reads),
+        lines_few h items ts it.front it.read,
       )
 
-  pub few_bytes : is_open (account (feed_of h ts ++ behind_snapshot h ts x)) ≡ true
-      → length (feed_of h ts ++ behind_snapshot h ts x) < 2_064_000_000_129 → length x < 2 ^ 64 - 1
+  pub few_bytes : is_open (account (feed_of h items ++ behind_snapshot h items x)) ≡ true
+      → length (feed_of h items ++ behind_snapshot h items x) < 2_064_000_000_129 → length x < 2 ^ 64 - 1
   few_bytes goes few = omega (
     arith,
     snapshot_bytes,
-    ap length (parts_are x h ts is),
-    length-append (snapshot (feed_of h ts)) (behind_snapshot h ts x),
-    length-append (feed_of h ts) (behind_snapshot h ts x),
+    ap length (parts_are x h items ts is),
+    length-append (snapshot (feed_of h items)) (behind_snapshot h items x),
+    length-append (feed_of h items) (behind_snapshot h items x),
     few,
   )
 
   -- what holds of that feed and the bytes behind its snapshot, and of each other feed with it
   pub past : (T : List ℕ → List ℕ → Type 0)
-      → ((F : List ℕ) → MayPause F → snapshot (feed_of h ts) ≡ snapshot F → T F (behind_snapshot h ts x)) → Behind x T
-  past T each = behind (snapshot (feed_of h ts)) (feed_of h ts) (feed_may x h ts is) refl x (behind_snapshot h ts x) T
-      (parts_are x h ts is) (λ F may text. each F may (sym text))
+      → ((F : List ℕ) → MayPause F → snapshot (feed_of h items) ≡ snapshot F → T F (behind_snapshot h items x))
+      → Behind x T
+  past T each = behind (snapshot (feed_of h items)) (feed_of h items) (feed_may x h items ts is) refl x
+      (behind_snapshot h items x) T
+      (parts_are x h items ts is) (λ F may text. each F may (sym text))
 
   -- the comparisons
   pub past_costs : (start now : ℕ)
-      → CostsAtMost (admitted_in (account (feed_of h ts ++ behind_snapshot h ts x))) start now
+      → CostsAtMost (admitted_in (account (feed_of h items ++ behind_snapshot h items x))) start now
       → IsFrugalFor start now x
   past_costs start now few = inr (past (λ F H. CostsAtMost (admitted_in (account (F ++ H))) start now)
       (λ F may text. subst (λ n. CostsAtMost n start now)
-      (admitted_same (feed_of h ts) F (behind_snapshot h ts x) (feed_may x h ts is) may text) few))
+      (admitted_same (feed_of h items) F (behind_snapshot h items x) (feed_may x h items ts is) may text) few))
 
 -- more bytes cost no less
 pub frugal_more : (start now : ℕ) (x y : List ℕ) → IsFrugalFor start now x → IsFrugalFor start now (x ++ y)

@@ -7,7 +7,7 @@ use Rattle.std.proofs.lemmas.List.{append-nil}
 use Rattle.std.proofs.lemmas.List.Elements.{filter_map-append}
 use Rattle.std.specs.List.{AllByRecursion, cons_option}
 use Rattle.dover_model.specs.declared.events.Event.{Event}
-use Rattle.dover_model.specs.declared.events.Event.TheVariants.{Release}
+use Rattle.dover_model.specs.declared.events.Event.TheVariants.{Release, Run, Preempt, Take, Complete, Abandon, End}
 use Rattle.dover_model.specs.declared.horizon.Horizon.TheVariants.{Mark}
 use Rattle.dover_model.specs.JobFacts.{JobFacts}
 use Rattle.dover_model.specs.Common.{AreShort, step_numbers, text_of, fields_of, Session, instance_of, admitted_jobs}
@@ -29,7 +29,15 @@ use Rattle.event_feed.specs.declared.due_line.DueLine.{DueLine}
 use Rattle.event_feed.specs.declared.due_line.DueLine.TheVariants.{Header, Step, Refuse, RefuseDone, Refused}
 use Rattle.lane_server.proofs.Adding.{due_open, holds_of, open_stands}
 use Rattle.event_feed.specs.Answers.{admitted_in}
-use Rattle.ready_server.specs.Roster.{Kept, Roll, roll_of, released, IsRollOf, HasLine}
+use Rattle.ready_server.specs.Roster.{Kept, Roll, roll_of, released, IsRollOf, HasLine, with_event, halted, with_finish}
+use Rattle.ready_server.specs.Roster.{finish_here, empty_roll, stopped, ListedJob}
+use Rattle.ready_server.specs.declared.roster.ListedFinish.{ListedFinish}
+use Rattle.ready_server.proofs.RollFinishes.{few_finishes, finish_more, halt_finishes}
+use Rattle.snapshot.proofs.Paces.{printed_later}
+use Rattle.std.proofs.Common.{fold, IsSome, set, slice_get}
+use Rattle.std.proofs.lemmas.List.Sums.{fold-append}
+use Rattle.dover_model.specs.Common.{Begins, Instance, settled_state}
+use Rattle.dover_model.specs.declared.events.Role.TheVariants.{Held, Waiting, Done, Gone}
 use Rattle.ready_server.proofs.RollSettled.{takes_low, few_jobs, roll_more}
 use Rattle.ready_server.proofs.Rostered.{more_read}
 use Rattle.feed_words.specs.serve.Listing.{step_of_fields, steps_in, with_line}
@@ -135,6 +143,41 @@ module _ (y : List ℕ) (goes : is_open (account y) ≡ true) (S : Session) (the
   due_form = subst (AllByRecursion GivesForm) (sym (due_open (account y) S there (open_stands (account y) goes)))
       (other_form (header S.rules) refl, texts_form lines lines_form)
 
+-- ---- how many early finishes there are
+
+-- a step more leaves no fewer
+finishes_one : (p : Roll) (e : Event) → length p.finishes ≤ length (with_event p e).finishes
+finishes_one p (Release n job) = omega arith
+finishes_one p (Run at n) = omega arith
+finishes_one p (Preempt at stops starts) = omega (arith, ap length (halt_finishes p at Held))
+finishes_one p (Take at stops starts) = omega (arith, ap length (halt_finishes p at Waiting))
+finishes_one p (Complete at n) = omega (arith, by (finish_here p at), ap length (halt_finishes p at Done)) where
+  by : (o : Option ListedFinish) → length (halted p at Done).finishes
+      ≤ length (with_finish (halted p at Done) o).finishes
+  by None = omega arith
+  by (Some f) = omega (arith, length-append (halted p at Done).finishes (f ∷ []))
+finishes_one p (Abandon at n) = by (slice_get p.jobs n) where
+  by : (o : Option ListedJob) → length p.finishes ≤ length (let q : Roll = elim o
+      [ None ↦ p | Some e ↦ record p { jobs = set p.jobs n (stopped 0 Gone p.takes e) } ] in q.finishes)
+  by None = omega arith
+  by (Some e) = omega arith
+finishes_one p (End value) = omega arith
+
+finishes_on : (events : List Event) (p : Roll) → length p.finishes ≤ length (fold with_event p events).finishes
+finishes_on [] p = omega arith
+finishes_on (e ∷ events) p = omega (arith, finishes_on events (with_event p e), finishes_one p e)
+
+-- steps that were settled have no more early finishes than there are jobs
+few_settled : (J : Instance) → IsValid J → (mark : ℕ) (events : List Event) → Begins events (settled J mark)
+    → length (roll_of events).finishes ≤ length J.jobs
+few_settled J valid mark events (rest, is) = omega (
+  arith,
+  finishes_on rest (roll_of events),
+  ap (λ es. length (roll_of es).finishes) is,
+  ap (λ (p : Roll). length p.finishes) (fold-append with_event empty_roll events rest),
+  few_finishes J valid mark (settled_state J mark) (settled J mark) (printed_later J valid mark mark (omega arith)),
+)
+
 -- the lines that are due for it were given, up to these that are left
 module _ (k : Kept) (y : List ℕ) (goes : is_open (account y) ≡ true) (given left : List (List ℕ))
     (due : due_lines (account y) ≡ given ++ left) (it : IsRollOf (steps_in given) k) where
@@ -195,6 +238,30 @@ module _ (k : Kept) (y : List ℕ) (goes : is_open (account y) ≡ true) (given 
         ap (λ (p : Roll). length p.jobs) (roll_more (steps_in given) (Release n job)),
         length-append (roll_of (steps_in given)).jobs (released n job ∷ []),
         ap (λ (p : Roll). length p.jobs) it,
+      )
+
+  -- an early finish that is given next finds room
+  pub finish_listed : admitted_in (account y) ≤ k.finish_room → (at n : ℕ) (more : List (List ℕ))
+      → left ≡ text_of (Complete at n) ∷ more → AreShort (step_numbers (Complete at n))
+      → IsSome (finish_here k.roll at) → length k.roll.finishes < k.finish_room
+  finish_listed room at n more next short some =
+      let there = session_there (text_of (Complete at n)) more next in
+      let front : steps_in left ≡ Complete at n ∷ steps_in more = ap steps_in next
+      ∙ ap (λ o. cons_option o (steps_in more)) (next_back (Complete at n) more next short) in omega (
+        arith,
+        room,
+        ap {B = ℕ} (λ (o : Option Session). elim o [ None ↦ 0 | Some T ↦ length (admitted_jobs T.items) ]) there.1,
+        few_settled (instance_of there.0) (valid y goes there.0 there.1) (account y).mark
+            (steps_in given ++ Complete at n ∷ []) (
+              steps_in more,
+              begins there.0 there.1 ∙ ap (λ es. steps_in given ++ es) front
+                  ∙ sym (append_assoc (steps_in given) (Complete at n ∷ []) (steps_in more)),
+            ),
+        ap (λ (p : Roll). length p.finishes) (roll_more (steps_in given) (Complete at n)),
+        finish_more (halted (roll_of (steps_in given)) at Done) (finish_here (roll_of (steps_in given)) at)
+            (subst (λ (p : Roll). IsSome (finish_here p at)) it some),
+        ap length (halt_finishes (roll_of (steps_in given)) at Done),
+        ap (λ (p : Roll). length p.finishes) it,
       )
 
   -- with the line that is given next, the roster was kept from the lines

@@ -1,6 +1,6 @@
 -- A feed that goes on from its snapshot, one that is paused, and the lines of a snapshot, put one behind another.
-use Rattle.std.proofs.Common.{◌≡◌, ℕ, [], append-nil, sym, ap, ◌∙◌, subst, Some, true, ◌<◌, ◌+◌, List, ◌∷◌, ◌++◌}
-use Rattle.std.proofs.Common.{length, take, drop, get_or, Option, take-append-drop}
+use Rattle.std.proofs.Common.{◌≡◌, ℕ, [], append-nil, sym, ap, ◌∙◌, subst, Some, true, List, ◌∷◌, ◌++◌}
+use Rattle.std.proofs.Common.{Option}
 use Rattle.dover_model.specs.Common.{instance_of, Session, lines_of, in_lines, account, account_of_lines, due_lines}
 use Rattle.dover_model.specs.Common.{settled}
 use Rattle.ready_server.specs.Serving.{Serves, HasPaid as HasSpentBy}
@@ -21,10 +21,10 @@ use Rattle.snapshot.specs.Snapshot.{MayPause}
 use Rattle.snapshot.specs.Feeds.{ResumesFeed}
 use Rattle.snapshot.proofs.Feeds.{opened}
 use Rattle.feed_words.specs.serve.Keeping.{Call, IsListed}
-use Rattle.std.proofs.lemmas.List.{take_more}
 use Rattle.dover_model.proofs.lists.Beginnings.{in_lines-append}
 use Rattle.dover_port.specs.Moves.{Move, Passes, CutsShort}
-use Rattle.dover_port.proofs.Through.{passes_then, passes_then_cut, cut_longer}
+use Rattle.dover_port.proofs.Through.{passes_then, passes_then_cut, cut_longer, passes_nothing}
+use Rattle.std.proofs.Common.{append_assoc, refl}
 use Rattle.dover_model.specs.declared.horizon.Horizon.TheVariants.{Mark}
 use Rattle.snapshot.specs.Pausing.{IsTakenTo}
 
@@ -82,21 +82,43 @@ taken_to feed k x rests may listed lane is s there lines counted mark marked = r
 
 -- ---- its lines are put
 
-module _ (ls : List (List ℕ)) (i : ℕ) (within : i < length ls) (line : List ℕ) (is : line ≡ get_or ls i [])
-    (a b c : Option (List Move)) (p q r : List ℕ) (first : Passes a b p q (in_lines (take i ls))) where
-  one_more : in_lines (take (i + 1) ls) ≡ in_lines (take i ls) ++ (line ++ 10 ∷ [])
-  one_more = ap in_lines (take_more ls i [] within) ∙ in_lines-append (take i ls) (get_or ls i [] ∷ [])
-      ∙ ap (λ l. in_lines (take i ls) ++ l) (append-nil (get_or ls i [] ++ 10 ∷ []) ∙ ap (λ l. l ++ 10 ∷ []) (sym is))
+-- these lines were put, and these are left
+pub record HasPut (all left : List (List ℕ)) (a b : Option (List Move)) (p q : List ℕ) : Type 0 where
+  pub done : List (List ℕ)
+  pub lines : all ≡ done ++ left
+  pub passes : Passes a b p q (in_lines done)
+
+-- none yet
+pub none_put : (all : List (List ℕ)) (a : Option (List Move)) (p : List ℕ) → HasPut all all a a p p
+none_put all a p = record { done = []; lines = refl; passes = passes_nothing a p }
+
+module _ (all old new : List (List ℕ)) (line : List ℕ) (is : old ≡ line ∷ new) (a b c : Option (List Move))
+    (p q r : List ℕ) (first : HasPut all old a b p q) where
+  one_more : in_lines (first.done ++ line ∷ []) ≡ in_lines first.done ++ (line ++ 10 ∷ [])
+  one_more = in_lines-append first.done (line ∷ []) ∙ ap (λ l. in_lines first.done ++ l) (append-nil (line ++ 10 ∷ []))
+
+  lines_are : all ≡ (first.done ++ line ∷ []) ++ new
+  lines_are = first.lines ∙ ap (λ ls. first.done ++ ls) is ∙ sym (append_assoc first.done (line ∷ []) new)
 
   -- a line more
-  pub passes_line : Passes b c q r (line ++ 10 ∷ []) → Passes a c p r (in_lines (take (i + 1) ls))
-  passes_line second = subst (Passes a c p r) (sym one_more)
-      (passes_then a b c p q r (in_lines (take i ls)) (line ++ 10 ∷ []) first second)
+  pub puts_line : Passes b c q r (line ++ 10 ∷ []) → HasPut all new a c p r
+  puts_line second = record {
+    done = first.done ++ line ∷ [];
+    lines = lines_are;
+    passes = subst (Passes a c p r) (sym one_more)
+        (passes_then a b c p q r (in_lines first.done) (line ++ 10 ∷ []) first.passes second);
+  }
 
   -- it is cut short
-  pub cuts_line : CutsShort b c q (line ++ 10 ∷ []) → CutsShort a c p (in_lines ls)
+  pub cuts_line : CutsShort b c q (line ++ 10 ∷ []) → CutsShort a c p (in_lines all)
   cuts_line second = subst (CutsShort a c p)
-      (sym (in_lines-append (take (i + 1) ls) (drop (i + 1) ls)) ∙ ap in_lines (take-append-drop (i + 1) ls))
-      (cut_longer a c p (in_lines (take (i + 1) ls)) (in_lines (drop (i + 1) ls))
+      (sym (ap in_lines lines_are ∙ in_lines-append (first.done ++ line ∷ []) new))
+      (cut_longer a c p (in_lines (first.done ++ line ∷ [])) (in_lines new)
       (subst (CutsShort a c p) (sym one_more)
-      (passes_then_cut a b c p q r (in_lines (take i ls)) (line ++ 10 ∷ []) first second)))
+      (passes_then_cut a b c p q r (in_lines first.done) (line ++ 10 ∷ []) first.passes second)))
+
+-- all were put
+pub all_put : (all left : List (List ℕ)) (a b : Option (List Move)) (p q : List ℕ) → HasPut all left a b p q
+    → left ≡ [] → Passes a b p q (in_lines all)
+all_put all left a b p q it none = subst (λ ls. Passes a b p q (in_lines ls))
+    (sym (it.lines ∙ ap (λ ls. it.done ++ ls) none ∙ append-nil it.done)) it.passes

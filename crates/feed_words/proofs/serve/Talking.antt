@@ -1,5 +1,6 @@
 -- A feed that is served, as a talk.
-use Rattle.std.proofs.Common.{◌≡◌, ◌<◌, ◌≤◌, ◌^◌, ◌-◌, ℕ, suc, List, [], ◌∷◌, ◌++◌, length, map, take, drop, refl, sym}
+use Rattle.std.proofs.Common.{◌≡◌, ◌<◌, ◌≤◌, ◌^◌, ◌-◌, ℕ, zero, suc, List, [], ◌∷◌, ◌++◌, length, map, take, drop}
+use Rattle.std.proofs.Common.{refl, sym}
 use Rattle.std.proofs.Common.{ap, ◌∙◌, arith, append_assoc, append-nil, length-append, Bool, true, false, cond}
 use Rattle.std.proofs.Common.{inl, inr, Result, Ok, Err, Option, subst, OnOk, take-append-drop}
 use Rattle.std.proofs.lemmas.List.{length-map}
@@ -50,8 +51,9 @@ answers_as at other x y ended done refused Refused text it = refused text it
 answers_as at other x y ended done refused _ text it = absurd it
 
 -- where there was no room for so many, some are wanted
-pub wanted : (n room : ℕ) → (n ≤ room → ⊥) → 0 < n
-wanted n room full = omega (arith, full)
+pub wanted : (n room finish_room : ℕ) → (n ≤ room → n ≤ finish_room → ⊥) → 0 < n
+wanted zero room finish_room full = absurd (full (omega arith) (omega arith))
+wanted (suc n) room finish_room full = omega arith
 
 -- ---- bytes behind the end of a feed
 
@@ -164,7 +166,8 @@ module _ (c : Call) where
     module _ (piece : List ℕ) (n : ℕ) (it : Takes feed (c.feed ++ x) piece (Ok n)) where
       pub taken_listed : (k l : Kept) → HasPaid feed.lane.server c.start steps → Costs c steps x
           → IsRollOf (steps_in (due_lines (account (c.feed ++ x)))) k → l.roll ≡ k.roll
-          → admitted_in (account ((c.feed ++ x) ++ take n piece)) ≤ l.room
+          → (admitted_in (account ((c.feed ++ x) ++ take n piece)) ≤ l.room)
+          × (admitted_in (account ((c.feed ++ x) ++ take n piece)) ≤ l.finish_room)
           → TakesBy {E = Lacking} (serve_talk Pause c.feed) (IsListing c feed l steps) (Costs c steps) x piece (Ok n)
       unfolding taken
       taken_listed k l paid costs roll alike room =
@@ -179,7 +182,8 @@ module _ (c : Call) where
                 given = due_lines (account (c.feed ++ x));
                 due = ap (λ z. due_lines (account z)) (joins x (take n piece)) ∙ it.2.1;
                 room = λ line more is.
-                    subst (λ z. admitted_in (account z) ≤ l.room) (sym (joins x (take n piece))) room;
+                    subst (λ z. (admitted_in (account z) ≤ l.room) × (admitted_in (account z) ≤ l.finish_room))
+                    (sym (joins x (take n piece))) room;
                 lists = λ goes. alike ∙ roll;
               },
             ),

@@ -1,7 +1,7 @@
 -- What is kept of a snapshot, and of the feed behind it.
 use Rattle.std.specs.Prelude.{◌≡◌, true, ℕ, List, [], Option}
 use Rattle.dover_model.specs.declared.events.Task.{Task}
-use Rattle.dover_model.specs.Common.{in_lines, lines_of, account, is_open}
+use Rattle.dover_model.specs.Common.{Item, in_lines, lines_of, account, is_open}
 use Rattle.snapshot.specs.Snapshot.{Head, MayPause, snapshot}
 use Rattle.snapshot.specs.declared.resuming.Resuming.{Resuming}
 use Rattle.snapshot.specs.Reading.{Taken, Refused, reading_of}
@@ -18,11 +18,12 @@ use Rattle.feed_words.specs.declared.resume.resuming.SnapshotStage.TheVariants a
 -- the bytes are a snapshot and bytes behind it, and of the one feed with it and these T holds
 pub record IsPast (start : ℕ) (x : List ℕ) (T : Call → List ℕ → Type 0) : Type 0 where
   pub head : Head
+  pub items : List Item
   pub tasks : List Task
-  pub reads : reading_of (lines_of x) ≡ Taken head tasks
-  pub goes : is_open (account (feed_of head tasks)) ≡ true
-  pub holds : T (record { feed = feed_of head tasks; goes_on = goes; start = start })
-      (behind_snapshot head tasks x)
+  pub reads : reading_of (lines_of x) ≡ Taken head items tasks
+  pub goes : is_open (account (feed_of head items)) ≡ true
+  pub holds : T (record { feed = feed_of head items; goes_on = goes; start = start })
+      (behind_snapshot head items x)
 
 -- the snapshot is still to be read on
 abbrev pub IsOpen : Asked → Opening → ℕ → List ℕ → Type 0

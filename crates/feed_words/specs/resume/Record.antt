@@ -19,8 +19,8 @@ use Rattle.feed_words.specs.declared.serve.at_end.AtEnd.{AtEnd}
 -- no line is refused, and the last line of the snapshot is still to come
 abbrev pub is_part : Reading → Bool
 is_part Begun = true
-is_part (Going h tasks) = true
-is_part (Taken h tasks) = false
+is_part (Going h items tasks) = true
+is_part (Taken h items tasks) = false
 is_part (reading.Refused line) = false
 
 -- so do the lines of these bytes

@@ -47,14 +47,15 @@ pub record IsReady (c : Call) (feed : Feed) (steps : ℕ) (x : List ℕ) : Type 
   pub paid : HasPaid feed.lane.server c.start steps
 
 -- The same of a feed that may pause: while it goes on, its roster was kept from the lines that were given for it. It
--- has room for the jobs that are admitted, where more lines are left.
+-- has room for the jobs that are admitted and for the early finish of each, where more lines are left.
 pub record IsListing (c : Call) (feed : Feed) (roster : Kept) (steps : ℕ) (x : List ℕ) (parts : List (List ℕ)) : Type 0
   where
     pub giving : IsGiving c feed steps x parts
     pub given : List (List ℕ)
     pub due : due_lines (account (c.feed ++ x)) ≡ given ++ giving.left
     pub room : (line : List ℕ) (more : List (List ℕ)) → giving.left ≡ line ∷ more
-        → admitted_in (account (c.feed ++ x)) ≤ roster.room
+        → (admitted_in (account (c.feed ++ x)) ≤ roster.room)
+        × (admitted_in (account (c.feed ++ x)) ≤ roster.finish_room)
     pub lists : is_open (account (c.feed ++ x)) ≡ true → IsRollOf (steps_in given) roster
 
 -- all was given

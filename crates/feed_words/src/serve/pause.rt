@@ -23,16 +23,15 @@ use std::sync::ledger::Ledger;
 pub(crate) fn put_lines<P: Port>(
     port: &mut P,
     out: &mut Output,
-    paused: &Paused,
+    paused: &mut Paused,
 ) -> Result<(), Failed>
-    ensures text { PutsThrough (P.moves port.old) (P.moves port.new) result out.old out.new (in_lines paused.now) }
+    ensures text { PutsThrough (P.moves port.old) (P.moves port.new) result out.old out.new (in_lines paused.old) }
     ensures cause { HasCause (P.write_faults port.old) (P.write_faults port.new) (P.read_faults port.old)
         (P.read_faults port.new) result }
     ensures stops { StopsAtFailure (P.calls port.old) (P.calls port.new) result }
 {
     let mut line = BackLine::new();
-    for number in 0..paused.count() {
-        paused.line(number, &mut line);
+    while paused.next_line(&mut line) {
         match out.put(port, line.bytes()) {
             Ok(()) => {}
             Err(failed) => return Err(failed),

@@ -1,9 +1,9 @@
 //! What the reading loop calls: a feed that is served, and may be paused.
-ghost use Rattle.std.specs.Prelude.{◌≡◌, ◌<◌, ◌-◌, ◌^◌, ℕ, [], true};
+ghost use Rattle.std.specs.Prelude.{◌≡◌, ◌<◌, ◌-◌, ◌^◌, ℕ, [], true, length, IsSome};
 ghost use Rattle.dover_model.specs.JobFacts.{JobFacts};
-ghost use Rattle.dover_model.specs.declared.events.Event.TheVariants.{Release};
+ghost use Rattle.dover_model.specs.declared.events.Event.TheVariants.{Release, Complete};
 ghost use Rattle.event_feed.specs.declared.due_line.DueLine.TheVariants.{Step};
-ghost use Rattle.ready_server.specs.Roster.{HasLine};
+ghost use Rattle.ready_server.specs.Roster.{HasLine, finish_here};
 ghost use Rattle.ready_server.specs.Serving.{HasPaid};
 ghost use Rattle.snapshot.specs.Snapshot.{MayPause};
 ghost use Rattle.snapshot.specs.Feeds.{ResumesFeed};
@@ -70,8 +70,10 @@ impl<L: Ledger> Pausing<L> {
 fn read_into(roster: &mut Roster, goes_on: bool, out: &DueLine)
     requires few { goes_on ≡ true → roster.old.roll.takes < 2 ^ 64 - 1 }
     requires room { (n : ℕ) (job : JobFacts) → goes_on ≡ true → out.now ≡ Step (Release n job) → HasLine roster.old }
+    requires finish_room { (at n : ℕ) → goes_on ≡ true → out.now ≡ Step (Complete at n)
+        → IsSome (finish_here roster.old.roll at) → length roster.old.roll.finishes < roster.old.finish_room }
     ensures roll { goes_on ≡ true → roster.new.roll ≡ with_line roster.old.roll out.now }
-    ensures room { roster.new.room ≡ roster.old.room }
+    ensures room { (roster.new.room ≡ roster.old.room) × (roster.new.finish_room ≡ roster.old.finish_room) }
 {
     if !goes_on {
         return;
@@ -134,8 +136,8 @@ impl<L: Ledger> Talker for Pausing<L> {
         ended: bool,
     ) -> Result<Status, Stop> {
         if is_paused(&self.serving.feed) {
-            let paused = pause(self);
-            let put = put_lines(port, out, &paused);
+            let mut paused = pause(self);
+            let put = put_lines(port, out, &mut paused);
             // Let go here, so that no way out of the answer owns it.
             drop(paused);
             return answer_with(put, Status::Done);

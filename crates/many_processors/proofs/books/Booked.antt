@@ -3,24 +3,29 @@
 use Rattle.std.proofs.Common.{◌≡◌, ℕ, suc, zero, ◌+◌, ◌*◌, ◌≤◌, ◌<◌, ◌⊎◌, inl, inr, List, [], ◌∷◌, ◌++◌, length, map}
 use Rattle.std.proofs.Common.{refl, sym, ap, ◌∙◌, Bool, true, false, cond, arith, sum_by, nat_le, not}
 use Rattle.std.proofs.Common.{◌&&◌, ◌||◌}
+use Rattle.std.proofs.Common.{◌==◌, eqb-true, eq-eqb}
+use Rattle.std.proofs.lemmas.Bool.{and_parts}
 use Rattle.std.specs.List.{count_by}
 use Rattle.std.proofs.lemmas.List.Sums.{sum_by-cons}
+use Rattle.dover_model.specs.declared.events.Task.{Task}
 use Rattle.dover_model.specs.declared.events.Role.TheVariants.{Running}
 use Rattle.dover_model.specs.Fraction.{Fraction}
 use Rattle.dover_model.specs.Orders.{is_heavy}
 use Rattle.dover_model.specs.Books.{Job, job_value, IsDense}
 use Rattle.dover_model.specs.Common.{is_privileged, is_done, is_over, left, IsMember, Each, IsNumberedFrom}
+use Rattle.dover_model.specs.Common.{value_sum, privileged}
 use Rattle.dover_model.proofs.bound.Booking.{is_gone}
 use Rattle.dover_model.proofs.bound.Counting.{one}
 use Rattle.dover_model.proofs.lists.Tests.{never}
-use Rattle.dover_model.proofs.lists.Members.{map_member, sum_same}
+use Rattle.dover_model.proofs.lists.Members.{map_member, sum_same, sum_map, sum_filter}
 use Rattle.dover_model.proofs.steps.Roles.{numbers_above}
-use Rattle.many_processors.specs.State.{Placed, State, seen_by}
+use Rattle.many_processors.specs.State.{Placed, State, seen_by, seen_from}
 use Rattle.many_processors.specs.Step.{is_own_of, numbers_from}
 use Rattle.many_processors.specs.Books.{Interval, Over, job_of, open_at, given_at, EndInOrder, TakenIn, IsPaidTwice}
 use Rattle.many_processors.specs.Books.{is_light_in}
+use Rattle.many_processors.specs.Schedules.{ticks_given}
 use Rattle.many_processors.proofs.steps.Seeing.{numbers_below}
-use Rattle.many_processors.proofs.steps.Placing.{seen_same}
+use Rattle.many_processors.proofs.steps.Placing.{seen_same, own_seen, seen_own}
 
 -- what is under way on a processor
 pub record Open : Type 0 where
@@ -137,7 +142,7 @@ pub record Booked (k : Fraction) (v w processors : ℕ) (ran : List (List ℕ)) 
   pub ticks_paid : v * sum_by length ran ≤ w * (sum_by (λ i. i.regular) closed + sum_by (λ i. i.displaced) closed
       + sum_by job_value lost + sum_by (λ q. (way q).regular + (way q).displaced) (numbers_from 0 processors))
       + (v * sum_by (λ o. o.had) taken + v * placed_sum (λ p. p.task.had) s.jobs)
-  pub taken_are : Each (λ o. TakenIn v w o × (o.at ≤ s.clock)) taken
+  pub taken_are : Each (λ o. TakenIn v w o × (o.at ≤ s.clock) × (o.had ≤ ticks_given ran o.number o.job)) taken
   pub gone_are : Each (GoneSoFar k v w processors closed way s.clock s.jobs) gone
 
 -- ---- who is excused
@@ -173,6 +178,32 @@ fails_too false b h e = refl
 fails_too true b h e = never (sym e ∙ h refl)
 
 -- ---- sums
+
+-- the value of what a processor sees is that of its own jobs
+pub seen_value : (s : State) (i : ℕ) → value_sum (privileged (seen_from i s)) ≡ own_sum i value_of s.jobs
+seen_value s i = sum_filter is_privileged (λ t. t.job.value) (map (seen_by i) s.jobs)
+    ∙ sum_map (seen_by i) (λ t. cond (is_privileged t) t.job.value 0) s.jobs
+    ∙ sum_same (λ p. cond (is_privileged (seen_by i p)) (seen_by i p).job.value 0)
+    (λ p. cond (is_own_of i p) (value_of p) 0) s.jobs (λ p member. same p (is_own_of i p) refl) where
+      same : (p : Placed) → (b : Bool) → is_own_of i p ≡ b
+          → cond (is_privileged (seen_by i p)) (seen_by i p).job.value 0 ≡ cond (is_own_of i p) (value_of p) 0
+      same p true e =
+          let both = and_parts (is_privileged p.task) (p.owner == i) e in
+          let seen_p : seen_by i p ≡ p.task = own_seen i p (eqb-true _ _ both.1) in
+          ap (λ (t : Task). cond (is_privileged t) t.job.value 0) seen_p
+          ∙ ap (λ b. cond b (value_of p) 0) both.0 ∙ sym (ap (λ b. cond b (value_of p) 0) e)
+      same p false e = ap (λ b. cond b (seen_by i p).job.value 0) (out (is_privileged (seen_by i p)) refl)
+          ∙ sym (ap (λ b. cond b (value_of p) 0) e) where
+            out : (b : Bool) → is_privileged (seen_by i p) ≡ b → is_privileged (seen_by i p) ≡ false
+            out false f = f
+            out true f =
+                let own = seen_own i p f in
+                never (sym e ∙ both_true (is_privileged p.task) (p.owner == i) (sym (ap is_privileged own.0) ∙ f)
+                (eq-eqb _ _ own.1)) where
+                  both_true : (a b : Bool) → a ≡ true → b ≡ true → (a && b) ≡ true
+                  both_true true true e f = refl
+                  both_true true false e f = never f
+                  both_true false b e f = never e
 
 -- a sum in which one term changes
 pub sum_at : (f g : Placed → ℕ) (n : ℕ) (jobs : List Placed) (x : Placed) → IsNumberedFrom n (map (seen_by 0) jobs)

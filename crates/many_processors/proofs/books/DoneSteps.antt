@@ -28,6 +28,7 @@ use Rattle.dover_model.proofs.bound.Counting.{one}
 use Rattle.dover_model.proofs.lists.Members.{each_append, each_cons}
 use Rattle.std.proofs.Common.{le-leb, lt-ltb}
 use Rattle.many_processors.specs.Books.{Interval, Over, job_of, is_open, TakenIn, IsPaidTwice}
+use Rattle.many_processors.specs.Schedules.{ticks_given}
 use Rattle.many_processors.specs.Books.{is_light_in}
 use Rattle.many_processors.proofs.books.Booked.{WasBusy, is_light_on}
 use Rattle.many_processors.proofs.books.Moved.{light_grows}
@@ -153,7 +154,7 @@ module _ (k : Fraction) (v w processors : ℕ) (ran : List (List ℕ)) (J : _) (
       (ticks_new : w * ((booked.way i).regular + (booked.way i).displaced + sum_by job_value booked.lost)
       + (v * sum_by (λ o. o.had) booked.taken + v * x.task.had)
       ≤ w * (rc + dc + sum_by job_value lost) + v * sum_by (λ o. o.had) taken)
-      (taken_are : Each (λ o. TakenIn v w o × (o.at ≤ s.clock)) taken) where
+      (taken_are : Each (λ o. TakenIn v w o × (o.at ≤ s.clock) × (o.had ≤ ticks_given ran o.number o.job)) taken) where
     -- the interval
     abbrev ended : Interval
     ended = record {

@@ -21,8 +21,7 @@ use Rattle.dover_model.proofs.bound.Booked.{IsModest}
 use Rattle.dover_model.proofs.bound.Calculus.{heavy_mono}
 use Rattle.dover_model.proofs.bound.Counting.{one}
 use Rattle.dover_model.proofs.lists.Tests.{never}
-use Rattle.dover_model.proofs.lists.Members.{map_member, sum_same, sum_map, sum_filter, member_filter, found}
-use Rattle.dover_model.proofs.lists.Members.{term_le_sum}
+use Rattle.dover_model.proofs.lists.Members.{map_member, member_filter, found, term_le_sum}
 use Rattle.dover_model.proofs.lists.Members.{each_cons}
 use Rattle.dover_model.proofs.lists.FirstOfTasks.{first_member}
 use Rattle.dover_model.proofs.steps.Roles.{passes, is_privileged_role, is_running_role, is_waiting_role}
@@ -35,6 +34,7 @@ use Rattle.many_processors.specs.Step.{after}
 use Rattle.many_processors.specs.Step.{completion, is_free}
 use Rattle.many_processors.specs.Sound.{Keeps}
 use Rattle.many_processors.specs.Books.{Over, job_of, TakenIn, IsPaidTwice}
+use Rattle.many_processors.specs.Schedules.{ticks_given}
 use Rattle.many_processors.proofs.bound.Chains.{twice_zero}
 use Rattle.many_processors.proofs.steps.Seeing.{seen_sees, whole, below_numbers}
 use Rattle.many_processors.proofs.steps.Cases as cases
@@ -46,8 +46,7 @@ use Rattle.many_processors.proofs.steps.Stepping.{real, same_job}
 use Rattle.many_processors.proofs.runs.EachStep.{is_tick, no_tick}
 use Rattle.many_processors.proofs.runs.Outcomes.{ran_after}
 use Rattle.many_processors.proofs.steps.Turns.{which, running_job, all_quiet, of_tasks}
-use Rattle.many_processors.proofs.books.Booked.{own_sum, value_of, number_and_job, Taker, comes_to, Booked, Open, shut}
-use Rattle.many_processors.proofs.books.Booked.{is_excused}
+use Rattle.many_processors.proofs.books.Booked.{own_sum, seen_value, value_of, number_and_job, Taker, comes_to, Booked, Open, shut, is_excused}
 use Rattle.many_processors.proofs.books.MovedSteps.{off_booked, same_booked, run_booked, at_one, on_each}
 use Rattle.many_processors.proofs.books.TakenSteps.{preempt_booked, take_booked}
 use Rattle.many_processors.proofs.books.OverSteps.{gone_booked, busy_before, busy_over}
@@ -57,7 +56,8 @@ use Rattle.many_processors.proofs.books.TickSteps.{ticks_booked}
 module _ (k : Fraction) (some_q : 1 ≤ k.q) (ratio : k.q ≤ k.p) (v w processors : ℕ) (some : 1
     ≤ processors) (J : Instance)
     (valid : IsValid J) (modest_jobs : Each (IsModest k v w) J.jobs) (ran : List (List ℕ)) (s : State)
-    (keeps : Keeps processors J s) (booked : Booked k v w processors ran s) where
+    (keeps : Keeps processors J s) (booked : Booked k v w processors ran s)
+    (had_given : Each (λ p. p.task.had ≤ ticks_given ran p.task.number p.task.job) s.jobs) where
   -- the jobs are modest
   modest : Each (λ p. IsModest k v w p.task.job) s.jobs
   modest p member = modest_jobs p.task.job (subst (IsMember p.task.job) keeps.jobs
@@ -149,8 +149,11 @@ module _ (k : Fraction) (some_q : 1 ≤ k.q) (ratio : k.q ≤ k.p) (v w processo
           (λ t. refl) (λ t. refl) booked.way (at_one x.owner shut booked.way) booked.fell end_calm
           booked.taken booked.gone over refl refl (asked e) τ was)
           (omega (arith, ap (λ n. v * n) (sum_by-cons (λ (o : Over). o.had) over booked.taken)))
-          (each_cons (λ o. TakenIn v w o × (o.at ≤ s.clock)) over booked.taken
-          (record { at_most_work = had_most s keeps.sound x x_member; reach = reach; had_paid = had_paid }, omega arith)
+          (each_cons (λ o. TakenIn v w o × (o.at ≤ s.clock) × (o.had ≤ ticks_given ran o.number o.job)) over booked.taken (
+            record { at_most_work = had_most s keeps.sound x x_member; reach = reach; work_paid = (modest x x_member).1 },
+            omega arith,
+            had_given x x_member,
+          )
           booked.taken_are)
       by_fell true e = close_booked k v w processors ran J s booked keeps one_job pressed x x_member x_on
           (modest x x_member).1 alone booked.regular booked.taken (number_and_job x ∷ booked.lost)
@@ -230,32 +233,6 @@ module _ (k : Fraction) (some_q : 1 ≤ k.q) (ratio : k.q ≤ k.p) (v w processo
 
   module _ (some_left : Each (λ p. is_privileged p.task ≡ true → 1 ≤ left p.task) s.jobs) (i : ℕ)
       (i_low : i < processors) where
-    -- the value of what the processor sees is that of its own
-    seen_value : value_sum (privileged (seen_from i s)) ≡ own_sum i value_of s.jobs
-    seen_value = sum_filter is_privileged (λ t. t.job.value) (map (seen_by i) s.jobs)
-        ∙ sum_map (seen_by i) (λ t. cond (is_privileged t) t.job.value 0) s.jobs
-        ∙ sum_same (λ p. cond (is_privileged (seen_by i p)) (seen_by i p).job.value 0)
-        (λ p. cond (is_own_of i p) (value_of p) 0) s.jobs (λ p member. same p member (is_own_of i p) refl) where
-          same : (p : Placed) → IsMember p s.jobs → (b : Bool) → is_own_of i p ≡ b
-              → cond (is_privileged (seen_by i p)) (seen_by i p).job.value 0 ≡ cond (is_own_of i p) (value_of p) 0
-          same p member true e =
-              let both = and_parts (is_privileged p.task) (p.owner == i) e in
-              let seen_p : seen_by i p ≡ p.task = own_seen i p (eqb-true _ _ both.1) in
-              ap (λ (t : Task). cond (is_privileged t) t.job.value 0) seen_p
-              ∙ ap (λ b. cond b (value_of p) 0) both.0 ∙ sym (ap (λ b. cond b (value_of p) 0) e)
-          same p member false e = ap (λ b. cond b (seen_by i p).job.value 0) (out (is_privileged (seen_by i p)) refl)
-              ∙ sym (ap (λ b. cond b (value_of p) 0) e) where
-                out : (b : Bool) → is_privileged (seen_by i p) ≡ b → is_privileged (seen_by i p) ≡ false
-                out false f = f
-                out true f =
-                    let own = seen_own i p f in
-                    never (sym e ∙ both_true (is_privileged p.task) (p.owner == i) (sym (ap is_privileged own.0) ∙ f)
-                    (eq-eqb _ _ own.1)) where
-                      both_true : (a b : Bool) → a ≡ true → b ≡ true → (a && b) ≡ true
-                      both_true true true e f = refl
-                      both_true true false e f = never f
-                      both_true false b e f = never e
-
     -- where none runs as the processor sees it, none of its own does
     none_own : NoneRuns (map (seen_by i) s.jobs) → Each (λ p. p.task.role ≡ Running → p.owner ≡ i → ⊥) s.jobs
     none_own none p member runs own =
@@ -350,7 +327,7 @@ module _ (k : Fraction) (some_q : 1 ≤ k.q) (ratio : k.q ≤ k.p) (v w processo
         y.0 y.1 (ap (λ (u : Task). u.role) y.2 ∙ runs) y.3 some_q ratio (λ p p_member. (modest p p_member).1)
         (subst (λ (u : Task). s.clock + left u ≡ u.job.deadline) (sym z.2) (omega (arith, now, fits.2)))
         (subst (λ (u : Task). IsHeavy k u.job.value (own_sum i value_of s.jobs)) (sym z.2)
-        (subst (IsHeavy k x.job.value) seen_value heavy))))
+        (subst (IsHeavy k x.job.value) (seen_value s i) heavy))))
     deed_booked m (Abandoned r x member runs some_r x_member waits now stale light) kind = never (sym kind)
     deed_booked m (Rested quiet) kind = same_booked k v w processors ran s booked i 0 _
 
@@ -368,7 +345,8 @@ module _ (k : Fraction) (some_q : 1 ≤ k.q) (ratio : k.q ≤ k.p) (v w processo
 module _ (rules : Rules) (some_q : 1 ≤ rules.ratio.q) (above : rules.ratio.q ≤ rules.ratio.p) (v w processors : ℕ)
     (some : 1 ≤ processors) (J : Instance)
     (valid : IsValid J) (modest_jobs : Each (IsModest rules.ratio v w) J.jobs) (ran : List (List ℕ)) (s : State)
-    (keeps : Keeps processors J s) (booked : Booked rules.ratio v w processors ran s) where
+    (keeps : Keeps processors J s) (booked : Booked rules.ratio v w processors ran s)
+    (had_given : Each (λ p. p.task.had ≤ ticks_given ran p.task.number p.task.job) s.jobs) where
   -- a job that is abandoned
   abandoned_booked : (q : Seen) → IsMember q (all_seen processors rules.version s) → (m : Move)
       → (it : cases.Goes rules.ratio q m) → Each (λ o. completion o ≡ None) (all_seen processors rules.version s)
@@ -379,10 +357,8 @@ module _ (rules : Rules) (some_q : 1 ≤ rules.ratio.q) (above : rules.ratio.q �
       subst (λ (y : Move). Booked rules.ratio v w processors ran (after s y))
       (ap (λ n. Prints q.processor (Abandon q.view.clock n)) (ap (λ (t : Task). t.number) x.2) ∙ sym it.is)
       (gone_booked rules.ratio v w processors ran J s booked keeps
-      (one_job rules.ratio some_q above v w processors some J valid modest_jobs ran s keeps booked) true x.0 x.1
-      is_w now
-      (modest rules.ratio some_q above v w processors some J valid modest_jobs ran s keeps booked x.0 x.1).0
-      all_light) where
+      (one_job rules.ratio some_q above v w processors some J valid modest_jobs ran s keeps booked had_given) true x.0 x.1 is_w now
+      (modest rules.ratio some_q above v w processors some J valid modest_jobs ran s keeps booked had_given x.0 x.1).0 all_light) where
         is_seen : (q ≡ seen rules.version s q.processor) × (q.processor < processors)
         is_seen = which processors J valid some rules s keeps q member
 
@@ -457,8 +433,7 @@ module _ (rules : Rules) (some_q : 1 ≤ rules.ratio.q) (above : rules.ratio.q �
               (value_sum (privileged (seen_from j s))) (comes_to booked.way s.jobs j)
               (omega (
                 arith,
-                seen_value rules.ratio some_q above v w processors some J valid modest_jobs ran s keeps booked
-                    some_left j low,
+                seen_value s j,
               ))
               (subst (λ (t : Task). is_heavy rules.ratio t.job.value (comes_to booked.way s.jobs j) ≡ true) x.2 e)))
 
@@ -471,11 +446,11 @@ module _ (rules : Rules) (some_q : 1 ≤ rules.ratio.q) (above : rules.ratio.q �
       (subst (λ (r : Seen). r.view.running ≡ Some t) i.0 is_served) in
       subst (λ (u : Task). Booked rules.ratio v w processors ran
       (after s (Prints q.processor (Complete q.view.clock u.number)))) x.2
-      (done_booked rules.ratio some_q above v w processors some J valid modest_jobs ran s keeps booked _ x.0 x.1
+      (done_booked rules.ratio some_q above v w processors some J valid modest_jobs ran s keeps booked had_given _ x.0 x.1
       (passes is_privileged x.0.task Running true x.3 refl))
   case_booked m (cases.Acted q member n acts going decided) =
       let i = which processors J valid some rules s keeps q member in
-      by_move m (acts_booked rules.ratio some_q above v w processors some J valid modest_jobs ran s keeps booked
+      by_move m (acts_booked rules.ratio some_q above v w processors some J valid modest_jobs ran s keeps booked had_given
       (all_left processors s rules.version keeps.sound keeps.placed going) q.processor i.1 rules refl m
       (subst (λ r. cases.Acts rules.ratio r false m) i.0 acts)) (not_tick q m acts) where
         not_tick : (q : Seen) → (m : Move) → cases.Acts rules.ratio q false m → m ≡ Ticks → ⊥
@@ -499,7 +474,7 @@ module _ (rules : Rules) (some_q : 1 ≤ rules.ratio.q) (above : rules.ratio.q �
       (value_sum (filter is_done (tasks_of s.jobs))) _
   case_booked m (cases.Rested quiet unended) = ticks_booked rules.ratio v w processors ran J rules s booked keeps
       (all_left processors s rules.version keeps.sound keeps.placed quiet.going)
-      (one_job rules.ratio some_q above v w processors some J valid modest_jobs ran s keeps booked) quiet
+      (one_job rules.ratio some_q above v w processors some J valid modest_jobs ran s keeps booked had_given) quiet
       (all_quiet processors J valid some rules s keeps quiet) some
 
   -- so does every step

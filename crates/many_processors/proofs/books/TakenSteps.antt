@@ -358,7 +358,7 @@ module _ (k : Fraction) (v w processors : ℕ) (ran : List (List ℕ)) (J : _) (
           let same_first : lost ≡ (booked.way i).first + lost = omega (arith, none.1) in
           subst (λ n. IsPaidTwice k n ((booked.way i).first + lost) x.task.job.value) same
           (subst (λ n. IsPaidTwice k lost n x.task.job.value) same_first
-          (twice_first k some_q ratio lost x.task.job.value heavy))
+          (twice_first k lost x.task.job.value heavy))
       by_took true e =
           let t = (booked.under i i_low).taker e in
           subst (λ n. IsPaidTwice k ((booked.way i).displaced + lost) n x.task.job.value)

@@ -26,7 +26,8 @@ use Rattle.many_processors.specs.Step.{after, Ticks}
 use Rattle.many_processors.specs.Run.{numbers_running}
 use Rattle.many_processors.specs.Sound.{Keeps}
 use Rattle.many_processors.specs.Books.{open_at, is_open, given_at, IsPaidTwice}
-use Rattle.many_processors.proofs.bound.Ticks.{given_front, given_last, length_last}
+use Rattle.many_processors.proofs.bound.Ticks.{given_front, given_last, length_last, given_more}
+use Rattle.many_processors.specs.Schedules.{is_named}
 use Rattle.many_processors.proofs.steps.Seeing.{seen_sees, below_numbers, numbers_below}
 use Rattle.many_processors.proofs.steps.Cases.{IsQuiet, some_from}
 use Rattle.many_processors.proofs.steps.Placing.{seen_member, seen_own, own_seen, off_seen}
@@ -61,7 +62,7 @@ none_below n q (suc more) low = omega (
   none_below n (suc q) more (omega (arith, low)),
 )
 
-one_number : (n q more : ℕ) → sum_by (λ j. one (eqb n j)) (numbers_from q more) ≤ 1
+pub one_number : (n q more : ℕ) → sum_by (λ j. one (eqb n j)) (numbers_from q more) ≤ 1
 one_number n q zero = omega arith
 one_number n q (suc more) = by_test (eqb n q) refl (one_number n (suc q) more) where
   by_test : (b : Bool) → eqb n q ≡ b → sum_by (λ j. one (eqb n j)) (numbers_from (suc q) more) ≤ 1
@@ -428,7 +429,11 @@ module _ (k : Fraction) (v w processors : ℕ) (ran : List (List ℕ)) (J : _) (
       ap (λ n. v * n) (sum_by-append (λ (ns : List ℕ). length ns) ran (names ∷ [])),
       ap (λ n. v * n) (sum_by-cons (λ (ns : List ℕ). length ns) names []),
     );
-    taken_are = λ o member. ((booked.taken_are o member).0, omega (arith, (booked.taken_are o member).1));
+    taken_are = λ o member. let it = booked.taken_are o member in (
+      it.0,
+      omega (arith, it.1),
+      omega (arith, it.2, given_more (is_named o.number) names ran o.job.release o.job.deadline),
+    );
     gone_are = λ o member. let it = booked.gone_are o member in record {
       light = omega (
         arith,

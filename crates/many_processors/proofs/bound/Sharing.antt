@@ -1,11 +1,13 @@
 -- What a schedule gives in one tick to jobs that the run completes after a take or abandons: no more than the run gives
--- in that tick, one for each job that was set aside by then and isn't due yet, and one for each job completed by then.
-use Rattle.std.proofs.Common.{◌≡◌, ℕ, ◌+◌, ◌≤◌, ◌<◌, ◌⊎◌, inl, inr, List, [], ◌∷◌, ◌++◌, length, refl, sym, ap}
+-- in that tick, so many times, and one for each job that was set aside by then and isn't due yet.
+use Rattle.std.proofs.Common.{◌≡◌, ℕ, ◌+◌, ◌*◌, ◌≤◌, ◌<◌, ◌⊎◌, inl, inr, List, [], ◌∷◌, ◌++◌, length, refl, sym, ap}
 use Rattle.std.proofs.Common.{Bool, true, false, cond, eqb, arith, nat_le, nat_lt, ◌&&◌, ◌||◌, not, sum_by, le-leb}
 use Rattle.std.proofs.Common.{leb-true}
 use Rattle.std.proofs.Common.{lt-ltb, ltb-true, eq-eqb}
 use Rattle.std.proofs.lemmas.Bool.{cases_lt, and_parts}
 use Rattle.std.proofs.lemmas.List.Sums.{sum_by-cons, sum_by-append}
+use Rattle.std.proofs.lemmas.Nat.{mul-le}
+use Rattle.std.proofs.Math.Nat.{mul-le-mul_left}
 use Rattle.std.specs.List.{count_by}
 use Rattle.dover_model.specs.Fraction.{Fraction}
 use Rattle.dover_model.specs.Orders.{is_heavy}
@@ -16,6 +18,7 @@ use Rattle.dover_model.proofs.bound.Counting.{one, in_window}
 use Rattle.many_processors.specs.Schedules.{is_named}
 use Rattle.many_processors.specs.Books.{Interval, Over, is_open, open_at, EndInOrder, given_at, IsBusyIn, is_light_in}
 use Rattle.many_processors.specs.Books.{completed_in}
+use Rattle.many_processors.proofs.bound.Copies.{each_times, times_sum}
 use Rattle.many_processors.proofs.bound.Aside.{InOrder, Upto, Aside}
 
 -- ---- tests
@@ -104,10 +107,6 @@ SetAside k = Aside (λ (i : Interval). i.until) (λ (o : Over). o.job.deadline) 
 abbrev pub still_aside : ℕ → Interval × Over → Bool
 still_aside τ p = nat_le p.0.until τ && nat_lt τ p.1.job.deadline
 
--- the job was over by this tick, and isn't due yet
-abbrev pub over_early : ℕ → Over → Bool
-over_early τ o = nat_le o.at τ && nat_lt τ o.job.deadline
-
 -- an interval of a job that was abandoned by now has ended, or lasts
 own_ends : (k : Fraction) (τ : ℕ) (i : Interval) (o : Over) → o.at ≤ τ
     → one (is_light_in k o i) ≤ one (nat_le i.until τ && is_light_in k o i) + one (is_open τ i)
@@ -139,11 +138,13 @@ own_ended k τ intervals o gone = omega (
 
 -- ---- one tick
 
-module _ (k : Fraction) (processors : ℕ) (intervals : List Interval) (taken gone : List Over) (ran : List (List ℕ))
+module _ (k : Fraction) (times : ℕ) (some_times : 1 ≤ times) (processors : ℕ) (intervals : List Interval)
+    (taken gone : List Over) (ran : List (List ℕ))
     (once : NamesOnce (taken ++ gone)) (covered : (τ : ℕ) → open_at intervals τ ≤ length (given_at ran τ))
     (busy : (τ : ℕ) → IsBusyIn processors ran (taken ++ gone) τ)
-    (all_open : Each (λ o. processors ≤ count_by (is_light_in k o) intervals) gone) (aside : SetAside k intervals gone)
-    (τ : ℕ) (numbers : List ℕ) (few : length numbers ≤ processors) where
+    (all_open : Each (λ o. processors ≤ count_by (is_light_in k o) intervals) gone)
+    (aside : SetAside k (each_times times intervals) gone) (τ : ℕ) (numbers : List ℕ)
+    (few : length numbers ≤ times * processors) where
   -- the schedule gives the tick to the job, in its window
   abbrev has_it : Over → Bool
   has_it o = is_named o.number numbers && in_window o.job τ
@@ -189,12 +190,17 @@ module _ (k : Fraction) (processors : ℕ) (intervals : List Interval) (taken go
       and_parts (nat_le o.job.release τ) (nat_lt τ o.job.deadline) inner.1 in
       (leb-true _ _ outer.1, ltb-true _ _ window.1)
 
+  -- what is set aside by now
+  abbrev UptoNow : Type 0
+  UptoNow = Upto (λ (i : Interval). i.until) (λ (o : Over). o.job.deadline) (λ i o. is_light_in k o i)
+      (each_times times intervals) gone aside.pairs τ
+
   -- the jobs that have it
   abbrev all_have : ℕ
   all_have = sum_by (λ o. one (has_it o)) taken + sum_by (λ o. one (has_it o)) gone
 
   -- they are no more than the processors
-  have_few : all_have ≤ processors
+  have_few : all_have ≤ times * processors
   have_few = omega (
     arith,
     few,
@@ -207,20 +213,35 @@ module _ (k : Fraction) (processors : ℕ) (intervals : List Interval) (taken go
   abbrev aside_now : ℕ
   aside_now = sum_by (λ p. one (still_aside τ p)) aside.pairs
 
-  -- those completed after a take and not due yet
-  abbrev early_now : ℕ
-  early_now = sum_by (λ o. one (over_early τ o)) taken
+  -- a job that has it before it is over
+  abbrev has_it_early : Over → Bool
+  has_it_early o = has_it o && nat_lt τ o.at
 
-  -- the taken ones that have it late
-  taken_late : sum_by (λ o. one (has_it_late o)) taken ≤ early_now
-  taken_late = sum_le (λ o. one (has_it_late o)) (λ o. one (over_early τ o)) taken
-      (λ o member. one_follows (has_it_late o) (over_early τ o)
-      (λ e. let it = late_parts o e in
-      both_true (nat_le o.at τ) (nat_lt τ o.job.deadline) (le-leb _ _ it.0) (lt-ltb _ _ it.1))) where
-        both_true : (a b : Bool) → a ≡ true → b ≡ true → (a && b) ≡ true
-        both_true true true e f = refl
-        both_true true false e f = never f
-        both_true false b e f = never e
+  -- it is ready
+  early_ready : (o : Over) → one (has_it_early o) ≤ one (is_ready o)
+  early_ready o = parts (is_named o.number numbers) (nat_le o.job.release τ) (nat_lt τ o.job.deadline) (nat_lt τ o.at) where
+    parts : (a b c d : Bool) → one ((a && (b && c)) && d) ≤ one (b && d)
+    parts true true true d = omega arith
+    parts true true false d = omega arith
+    parts true false c d = omega arith
+    parts false b c d = omega arith
+
+  -- those that have it: of the taken ones before they are over
+  abbrev asking : ℕ
+  asking = sum_by (λ o. one (has_it_early o)) taken + sum_by (λ o. one (has_it o)) gone
+
+  -- they are no more
+  asking_few : asking ≤ times * processors
+  asking_few = omega (
+    arith,
+    have_few,
+    sum_le (λ o. one (has_it_early o)) (λ o. one (has_it o)) taken
+        (λ o member. less (has_it o) (nat_lt τ o.at)),
+  ) where
+    less : (a b : Bool) → one (a && b) ≤ one a
+    less true true = omega arith
+    less true false = omega arith
+    less false b = omega arith
 
   -- where each ready job has the tick in the run, so many have it that are ready
   ready_few : Each (λ o. o.job.release ≤ τ → τ < o.at → IsMember o.number (given_at ran τ)) (taken ++ gone)
@@ -233,21 +254,18 @@ module _ (k : Fraction) (processors : ℕ) (intervals : List Interval) (taken go
         member_named o.number (given_at ran τ) (each o member (leb-true _ _ it.0) (ltb-true _ _ it.1))),
   )
 
-  -- those that have it are ready or over
-  have_parts : all_have ≤ (sum_by (λ o. one (is_ready o)) taken + sum_by (λ o. one (is_ready o)) gone)
-      + (sum_by (λ o. one (has_it_late o)) taken + sum_by (λ o. one (has_it_late o)) gone)
-  have_parts = omega (arith, parts taken, parts gone) where
-    parts : (jobs : List Over) → sum_by (λ o. one (has_it o)) jobs ≤ sum_by (λ o. one (is_ready o)) jobs + sum_by
-        (λ o. one (has_it_late o)) jobs
-    parts jobs = omega (
-      arith,
-      sum_le (λ o. one (has_it o)) (λ o. one (is_ready o) + one (has_it_late o)) jobs (λ o member. ready_or_over o),
-      sum_plus (λ o. one (is_ready o)) (λ o. one (has_it_late o)) jobs,
-    )
+  -- those that have it are ready, or abandoned by now
+  asking_parts : asking ≤ (sum_by (λ o. one (is_ready o)) taken + sum_by (λ o. one (is_ready o)) gone)
+      + sum_by (λ o. one (has_it_late o)) gone
+  asking_parts = omega (
+    arith,
+    sum_le (λ o. one (has_it_early o)) (λ o. one (is_ready o)) taken (λ o member. early_ready o),
+    sum_le (λ o. one (has_it o)) (λ o. one (is_ready o) + one (has_it_late o)) gone (λ o member. ready_or_over o),
+    sum_plus (λ o. one (is_ready o)) (λ o. one (has_it_late o)) gone,
+  )
 
   -- where all that have it late are set aside
-  all_aside : (upto : Upto (λ (i : Interval). i.until) (λ (o : Over). o.job.deadline) (λ i o. is_light_in k o i)
-      intervals gone aside.pairs τ)
+  all_aside : (upto : UptoNow)
       → sum_by (λ o. one (has_it_late o)) upto.waiting ≡ 0 → sum_by (λ o. one (has_it_late o)) gone ≤ aside_now
   all_aside upto none = omega (
     arith,
@@ -264,18 +282,25 @@ module _ (k : Fraction) (processors : ℕ) (intervals : List Interval) (taken go
     here true true false h = never (h refl)
 
   -- where one of them isn't, each of its intervals that has ended set aside another one
-  one_waits : (upto : Upto (λ (i : Interval). i.until) (λ (o : Over). o.job.deadline) (λ i o. is_light_in k o i)
-      intervals gone aside.pairs τ)
+  one_waits : (upto : UptoNow)
       → (o : Over) → IsMember o upto.waiting → has_it_late o ≡ true
-      → processors ≤ length (given_at ran τ) + aside_now
+      → times * processors ≤ times * length (given_at ran τ) + aside_now
   one_waits upto o member e =
       let it : (o.at ≤ τ) × (τ < o.job.deadline) = late_parts o e in
-      omega (
+      let lasting : processors ≤ length (given_at ran τ)
+      + sum_by (λ i. one (nat_le i.until τ && is_light_in k o i)) intervals = omega (
         arith,
         all_open o (upto.members o member),
         own_ended k τ intervals o it.0,
-        upto.passed o member,
         covered τ,
+      ) in
+      let open_times : times * processors ≤ times * (length (given_at ran τ)
+      + sum_by (λ i. one (nat_le i.until τ && is_light_in k o i)) intervals) = mul-le-mul_left times lasting in
+      omega (
+        arith,
+        open_times,
+        times_sum (λ i. one (nat_le i.until τ && is_light_in k o i)) times intervals,
+        upto.passed o member,
         sum_le (λ (p : Interval × Over). one (nat_le p.0.until τ && nat_le o.job.deadline p.1.job.deadline))
             (λ p. one (still_aside τ p)) aside.pairs
             (λ p m. here (nat_le p.0.until τ) (nat_le o.job.deadline p.1.job.deadline) (nat_lt τ p.1.job.deadline)
@@ -289,17 +314,20 @@ module _ (k : Fraction) (processors : ℕ) (intervals : List Interval) (taken go
         here true true false h = never (h refl)
 
   -- the schedule gives the tick to no more of them
-  pub tick_shared : all_have ≤ length (given_at ran τ) + (aside_now + early_now)
+  pub tick_shared : asking ≤ times * length (given_at ran τ) + aside_now
   tick_shared = by_busy (busy τ) where
-    by_upto : (upto : Upto (λ (i : Interval). i.until) (λ (o : Over). o.job.deadline) (λ i o. is_light_in k o i)
-        intervals gone aside.pairs τ)
+    by_upto : (upto : UptoNow)
         → Each (λ o. o.job.release ≤ τ → τ < o.at → IsMember o.number (given_at ran τ)) (taken ++ gone)
         → (sum_by (λ o. one (has_it_late o)) upto.waiting ≡ 0)
         ⊎ ((o : Over) × IsMember o upto.waiting × (has_it_late o ≡ true))
-        → all_have ≤ length (given_at ran τ) + (aside_now + early_now)
-    by_upto upto each (inl none) = omega (arith, have_parts, ready_few each, taken_late, all_aside upto none)
-    by_upto upto each (inr it) = omega (arith, have_few, one_waits upto it.0 it.1 it.2)
+        → asking ≤ times * length (given_at ran τ) + aside_now
+    by_upto upto each (inl none) =
+        let more : 1 * length (given_at ran τ) ≤ times * length (given_at ran τ) =
+        mul-le 1 (length (given_at ran τ)) times (length (given_at ran τ)) some_times (omega arith) in
+        omega (arith, asking_parts, ready_few each, more, all_aside upto none)
+    by_upto upto each (inr it) = omega (arith, asking_few, one_waits upto it.0 it.1 it.2)
 
-    by_busy : IsBusyIn processors ran (taken ++ gone) τ → all_have ≤ length (given_at ran τ) + (aside_now + early_now)
-    by_busy (inl full) = omega (arith, full, have_few)
+    by_busy : IsBusyIn processors ran (taken ++ gone) τ → asking ≤ times * length (given_at ran τ) + aside_now
+    by_busy (inl full) = let all : times * processors ≤ times * length (given_at ran τ) = mul-le-mul_left times full in
+        omega (arith, all, asking_few)
     by_busy (inr each) = by_upto (aside.upto τ) each (some_pass has_it_late (aside.upto τ).waiting)

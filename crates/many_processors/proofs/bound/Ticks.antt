@@ -1,5 +1,5 @@
 -- Sums over the ticks of a schedule of several processors.
-use Rattle.std.proofs.Common.{◌≡◌, ℕ, suc, zero, ◌+◌, ◌-◌, ◌≤◌, ◌<◌, ◌⊎◌, inl, inr, List, [], ◌∷◌, take, refl, sym, ap}
+use Rattle.std.proofs.Common.{◌≡◌, ℕ, suc, zero, ◌+◌, ◌-◌, ◌*◌, ◌≤◌, ◌<◌, ◌⊎◌, inl, inr, List, [], ◌∷◌, take, refl, sym, ap}
 use Rattle.std.proofs.Common.{Bool, true, false, cond, arith, nat_le, nat_lt, ◌&&◌, sum_by, drop, length}
 use Rattle.std.proofs.Common.{le-leb, lt-ltb, ◌∙◌, ◌++◌}
 use Rattle.std.specs.List.{count_by}
@@ -33,6 +33,11 @@ module _ {Y : Type 0} where
       → total (λ τ y. w τ y + v τ y) t s ≡ total w t s + total v t s
   total_plus w v t [] = refl
   total_plus w v t (y ∷ s) = omega (arith, total_plus w v (suc t) s)
+
+  -- so many times as much at each tick
+  pub total_times : (n : ℕ) (w : ℕ → Y → ℕ) (t : ℕ) (s : List Y) → total (λ τ y. n * w τ y) t s ≡ n * total w t s
+  total_times n w t [] = omega arith
+  total_times n w t (y ∷ s) = omega (arith, total_times n w (suc t) s)
 
   -- nothing at each tick
   pub total_zero : (t : ℕ) (s : List Y) → total (λ τ y. 0) t s ≡ 0
@@ -142,6 +147,19 @@ given_behind (ms ∷ ran) zero low = absurd (omega (arith, low))
 given_behind (ms ∷ ran) (suc τ) low = given_behind ran τ (omega (arith, low))
 
 module _ {Y : Type 0} (p : Y → Bool) (y : Y) where
+  -- one tick more takes nothing away
+  pub given_more : (s : List Y) (r d : ℕ) → given p r d s ≤ given p r d (s ++ (y ∷ []))
+  given_more [] r d = omega (arith, given_nil p r d)
+  given_more (x ∷ s) zero (suc d) = omega (
+    arith,
+    sum_by-cons (λ z. cond (p z) 1 0) x (take d (s ++ (y ∷ []))),
+    sum_by-cons (λ z. cond (p z) 1 0) x (take d s),
+    given_more s 0 d,
+  )
+  given_more (x ∷ s) (suc r) (suc d) = given_more s r d
+  given_more (x ∷ s) zero zero = omega arith
+  given_more (x ∷ s) (suc r) zero = omega arith
+
   -- a tick that doesn't count
   pub given_miss : p y ≡ false → (s : List Y) (r d : ℕ) → given p r d (s ++ (y ∷ [])) ≡ given p r d s
   given_miss out [] zero (suc d) = sum_by-cons (λ z. cond (p z) 1 0) y (take d [])

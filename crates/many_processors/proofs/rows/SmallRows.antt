@@ -145,6 +145,13 @@ tie_by_number : printed_on 2 (under Four (fraction 2 1) [] (job 0 4 9 8 ∷ job 
     ∷ (0, Complete 5 0) ∷ (0, End 13) ∷ []
 tie_by_number = refl
 
+-- a fresh job that is due when the running ones are waits, though it fits and is denser
+due_alike_waits : printed_on 2 (under Four (fraction 2 1) [] (job 0 2 6 2 ∷ job 0 3 6 3 ∷ job 1 1 6 2 ∷ []))
+    ≡ (0, Release 0 (job 0 2 6 2)) ∷ (0, Run 0 0) ∷ (0, Release 1 (job 0 3 6 3)) ∷ (1, Run 0 1)
+    ∷ (0, Release 2 (job 1 1 6 2)) ∷ (0, Complete 2 0) ∷ (0, Run 2 2) ∷ (0, Complete 3 2) ∷ (1, Complete 3 1)
+    ∷ (0, End 7) ∷ []
+due_alike_waits = refl
+
 -- ---- what isn't true on several processors
 
 -- three jobs that two processors could serve: of their 8 the run completes 4

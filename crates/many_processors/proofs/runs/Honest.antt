@@ -118,15 +118,15 @@ there_named n (k ∷ numbers) named = by_first (k == n) refl named (there_named 
 -- ---- the ticks so far
 
 -- they are those that the job had, all in its window
-record JobGave (past : List (List ℕ)) (t : Task) : Type 0 where
-  had : ticks_given past t.number t.job ≡ t.had
-  window : (τ : ℕ) → is_named t.number (given_at past τ) ≡ true → (t.job.release ≤ τ) × (τ < t.job.deadline)
+pub record JobGave (past : List (List ℕ)) (t : Task) : Type 0 where
+  pub had : ticks_given past t.number t.job ≡ t.had
+  pub window : (τ : ℕ) → is_named t.number (given_at past τ) ≡ true → (t.job.release ≤ τ) × (τ < t.job.deadline)
 
 -- so have all jobs, and those that are done had what they needed
-record Gave (finishes : List Finish) (past : List (List ℕ)) (s : State) : Type 0 where
-  clock : length past ≡ s.clock
-  each : Each (λ p. JobGave past p.task) s.jobs
-  done : Each (λ p. p.task.role ≡ Done → is_finished finishes p.task ≡ true) s.jobs
+pub record Gave (finishes : List Finish) (past : List (List ℕ)) (s : State) : Type 0 where
+  pub clock : length past ≡ s.clock
+  pub each : Each (λ p. JobGave past p.task) s.jobs
+  pub done : Each (λ p. p.task.role ≡ Done → is_finished finishes p.task ≡ true) s.jobs
 
 -- whatever its role is
 gave_role : (past : List (List ℕ)) (t : Task) (role : Role) → JobGave past t → JobGave past (with_role t role)
@@ -286,29 +286,29 @@ module _ (processors : ℕ) (some : 1 ≤ processors) (J : Instance) (valid : Is
   abbrev all : List Seen
   all = all_seen processors J.rules.version s
 
-  by_case : (m : Move) → StepCase true J.rules s all m → Gave J.rules.finishes (ran_after past s m) (after s m)
-  by_case m (cases.Completed q member t runs finished) =
+  pub step_gave : (m : Move) → StepCase true J.rules s all m → Gave J.rules.finishes (ran_after past s m) (after s m)
+  step_gave m (cases.Completed q member t runs finished) =
       let i = which processors J valid some J.rules s keeps q member in
       let x = running_job processors J valid some J.rules s keeps q.processor t
       (subst (λ (r : Seen). r.view.running ≡ Some t) i.0 runs) in
       subst (λ (u : Task). Gave J.rules.finishes past
       (after s (Prints q.processor (Complete q.view.clock u.number)))) x.2
       (completes q.processor q.view.clock x.0 x.1 (ap (is_finished J.rules.finishes) x.2 ∙ finished))
-  by_case m (cases.Acted q member n acts going decided) =
+  step_gave m (cases.Acted q member n acts going decided) =
       subst (λ (x : Move). Gave J.rules.finishes (ran_after past s x) (after s x)) (sym acts.is)
       (moved q.processor acts.move (no_completion J.rules.ratio q (going q member) acts.move acts.case)
       (no_tick J.rules.ratio q.view q.processor acts.move acts.case))
-  by_case m (cases.Abandoned q member n acts it going light) =
+  step_gave m (cases.Abandoned q member n acts it going light) =
       subst (λ (x : Move). Gave J.rules.finishes (ran_after past s x) (after s x)) (sym it.is)
       (printed q.processor (Abandon q.view.clock it.job.number) refl)
-  by_case m (cases.Ended may over) = printed 0 (End (value_sum (filter is_done (tasks_of s.jobs)))) refl
-  by_case m (cases.Rested quiet unended) =
+  step_gave m (cases.Ended may over) = printed 0 (End (value_sum (filter is_done (tasks_of s.jobs)))) refl
+  step_gave m (cases.Rested quiet unended) =
       ticks (all_left processors s J.rules.version keeps.sound keeps.placed quiet.going)
 
 -- ---- the run
 
 module _ (processors : ℕ) (J : Instance) (valid : IsValid J) (some : 1 ≤ processors) where
-  opening_gave : Gave J.rules.finishes [] (opening J.jobs)
+  pub opening_gave : Gave J.rules.finishes [] (opening J.jobs)
   opening_gave = record {
     clock = refl;
     each = on_map unplaced (λ p. JobGave [] p.task) (to_come 0 J.jobs)
@@ -324,12 +324,12 @@ module _ (processors : ℕ) (J : Instance) (valid : IsValid J) (some : 1 ≤ pro
 
   at_end : Outcome processors J (Gave J.rules.finishes) [] (run processors J)
   at_end = outcome processors some J valid (Gave J.rules.finishes)
-      (λ past s keeps gave. by_case processors some J valid past s keeps gave (step processors J.rules s)
+      (λ past s keeps gave. step_gave processors some J valid past s keeps gave (step processors J.rules s)
       (step_case J.rules s (all_seen processors J.rules.version s) (each_sees processors J.rules.version s)))
       (enough J.jobs) (opening J.jobs) [] (opening_kept processors J) opening_gave (run_ends processors J valid some)
 
   -- a job by its number at the end of the run
-  job_there : (k : ℕ) (tasks : List Task) → IsNumberedFrom k tasks → (n_j : ℕ × JobFacts)
+  pub job_there : (k : ℕ) (tasks : List Task) → IsNumberedFrom k tasks → (n_j : ℕ × JobFacts)
       → IsMember n_j (enumerate_from k (jobs_of tasks))
       → (t : Task) × IsMember t tasks × (t.number ≡ n_j.0) × (t.job ≡ n_j.1)
   job_there k [] row n_j member = absurd member

@@ -1,10 +1,9 @@
 -- Every run of a valid instance on some processors ends, within the fuel of `run`, and prints few steps.
 use Rattle.std.proofs.Common.{◌≡◌, ℕ, suc, zero, ◌+◌, ◌-◌, ◌*◌, ◌≤◌, ◌<◌, ◌⊎◌, inl, inr, List, [], length, map}
-use Rattle.std.proofs.Common.{refl, sym, ap, ◌∙◌, subst, Bool, true, false, cond, ◌||◌, ◌&&◌, ◌==◌, arith, Some, None}
-use Rattle.std.proofs.Common.{eqb-true, eq-eqb, nat_lt, Option, ◌∷◌}
+use Rattle.std.proofs.Common.{refl, sym, ap, ◌∙◌, subst, Bool, true, false, ◌||◌, arith, Some, None}
+use Rattle.std.proofs.Common.{nat_lt, Option, ◌∷◌}
 use Rattle.std.specs.Prelude.{filter_map}
 use Rattle.std.specs.List.{AllByRecursion, list_any, list_all, cons_option}
-use Rattle.std.proofs.lemmas.Bool.{and_parts}
 use Rattle.dover_model.specs.declared.events.Event.{Event}
 use Rattle.dover_model.specs.declared.events.Event.TheVariants.{Run, Preempt, Take, Complete, Abandon, End, Release}
 use Rattle.dover_model.specs.declared.events.Task.{Task}
@@ -12,12 +11,12 @@ use Rattle.dover_model.specs.declared.events.Role.{Role}
 use Rattle.dover_model.specs.declared.events.Role.TheVariants.{Coming, Fresh, Waiting, Held, Running, Done, Gone}
 use Rattle.dover_model.specs.Finishes.{is_due}
 use Rattle.dover_model.specs.Common.{Rules, Instance, IsValid, IsJob, last_deadline, is_over, is_privileged, left}
-use Rattle.dover_model.specs.Common.{is_ready_behind, latest_start, IsMember, Each, value_sum, privileged}
+use Rattle.dover_model.specs.Common.{is_ready_behind, latest_start, IsMember, Each}
 use Rattle.dover_model.specs.Common.{weight, weight_in, to_come, IsHeavy, is_complete}
 use Rattle.dover_model.specs.Step as single
 use Rattle.dover_model.proofs.finishes.Readiness.{none_due}
 use Rattle.dover_model.proofs.lists.Tests.{never}
-use Rattle.dover_model.proofs.lists.Members.{map_member, sum_map, sum_same, sum_filter, on_map, not_all}
+use Rattle.dover_model.proofs.lists.Members.{map_member, sum_map, on_map, not_all}
 use Rattle.dover_model.proofs.runs.Ending.{sum_each}
 use Rattle.dover_model.proofs.runs.Potential.{steps_scale, one_most, weight_of}
 use Rattle.dover_model.proofs.steps.Deeds.{Deed, Completed, Resumed, Started, Began, Preempted, Stayed, Arrived}
@@ -29,18 +28,16 @@ use Rattle.dover_model.proofs.valid.Dues.{dues_most}
 use Rattle.dover_model.proofs.valid.JobLimits.{job_limits}
 use Rattle.many_processors.specs.Step.{open_step, is_free}
 use Rattle.many_processors.specs.State.{Placed, State, tasks_of, seen_by, seen_from, opening, unplaced}
-use Rattle.many_processors.specs.Step.{Move, Prints, Waits, Ticks, on, Seen, seen, all_seen, is_own_of, numbers_from}
-use Rattle.many_processors.specs.Step.{after}
+use Rattle.many_processors.specs.Step.{Move, Prints, Waits, Ticks, on, Seen, seen, all_seen, numbers_from, after}
 use Rattle.many_processors.specs.Step.{step, completion}
 use Rattle.many_processors.specs.Run as many
 use Rattle.many_processors.specs.Run.{run_from, run, enough, is_end, event_of, printed, HasEnd}
 use Rattle.many_processors.specs.Sound.{Keeps}
 use Rattle.many_processors.proofs.steps.Seeing.{each_sees, below_numbers}
 use Rattle.many_processors.proofs.steps.Cases as cases
-use Rattle.many_processors.proofs.steps.Cases.{StepCase, step_case, open_case, IsQuiet, then_none, is_finished, is_run}
-use Rattle.many_processors.proofs.steps.Cases.{is_take, NoneDue}
-use Rattle.many_processors.proofs.books.Booked.{own_sum, value_of}
-use Rattle.many_processors.proofs.steps.Placing.{seen_member, seen_own, own_seen, off_seen, all_left, own_running}
+use Rattle.many_processors.proofs.steps.Cases.{StepCase, step_case, open_case, IsQuiet, then_none, is_finished, is_run, is_take, NoneDue}
+use Rattle.many_processors.proofs.books.Booked.{own_sum, value_of, seen_value}
+use Rattle.many_processors.proofs.steps.Placing.{seen_member, seen_own, off_seen, all_left, own_running}
 use Rattle.many_processors.proofs.steps.Stepping.{real, same_job}
 use Rattle.many_processors.proofs.steps.Turns.{which, running_job, all_quiet, of_tasks, step_kept, opening_kept}
 use Rattle.many_processors.proofs.runs.EachStep.{no_completion, tick_quiet, open_goes_on}
@@ -65,32 +62,6 @@ module _ (processors : ℕ) (J : Instance) (valid : IsValid J) (some : 1 ≤ pro
 
   one_job : (p u : Placed) → IsMember p s.jobs → IsMember u s.jobs → p.task.number ≡ u.task.number → p ≡ u
   one_job = same_job processors J valid s keeps
-
-  -- the value of what a processor sees is that of its own
-  seen_value : (i : ℕ) → value_sum (privileged (seen_from i s)) ≡ own_sum i value_of s.jobs
-  seen_value i = sum_filter is_privileged (λ t. t.job.value) (map (seen_by i) s.jobs)
-      ∙ sum_map (seen_by i) (λ t. cond (is_privileged t) t.job.value 0) s.jobs
-      ∙ sum_same (λ p. cond (is_privileged (seen_by i p)) (seen_by i p).job.value 0)
-      (λ p. cond (is_own_of i p) (value_of p) 0) s.jobs (λ p member. same p (is_own_of i p) refl) where
-        same : (p : Placed) → (b : Bool) → is_own_of i p ≡ b
-            → cond (is_privileged (seen_by i p)) (seen_by i p).job.value 0 ≡ cond (is_own_of i p) (value_of p) 0
-        same p true e =
-            let both = and_parts (is_privileged p.task) (p.owner == i) e in
-            let seen_p : seen_by i p ≡ p.task = own_seen i p (eqb-true _ _ both.1) in
-            ap (λ (t : Task). cond (is_privileged t) t.job.value 0) seen_p
-            ∙ ap (λ b. cond b (value_of p) 0) both.0 ∙ sym (ap (λ b. cond b (value_of p) 0) e)
-        same p false e = ap (λ b. cond b (seen_by i p).job.value 0) (out (is_privileged (seen_by i p)) refl)
-            ∙ sym (ap (λ b. cond b (value_of p) 0) e) where
-              out : (b : Bool) → is_privileged (seen_by i p) ≡ b → is_privileged (seen_by i p) ≡ false
-              out false f = f
-              out true f =
-                  let own = seen_own i p f in
-                  never (sym e ∙ both_true (is_privileged p.task) (p.owner == i) (sym (ap is_privileged own.0) ∙ f)
-                  (eq-eqb _ _ own.1)) where
-                    both_true : (a b : Bool) → a ≡ true → b ≡ true → (a && b) ≡ true
-                    both_true true true e f = refl
-                    both_true true false e f = never f
-                    both_true false b e f = never e
 
   -- what is known of a move on processor i that isn't a completion
   abbrev Decided : ℕ → Move → Type 0
@@ -226,7 +197,7 @@ module _ (processors : ℕ) (J : Instance) (valid : IsValid J) (some : 1 ≤ pro
               (decided.0 y.0 y.1 (ap (λ (u : Task). u.role) y.2 ∙ runs_r)) s.clock _ is_w
               (ap latest_start z.2 ∙ now) J.rules.ratio
               (subst (λ (u : Task). IsHeavy J.rules.ratio u.job.value (own_sum i value_of s.jobs)) (sym z.2)
-              (subst (IsHeavy J.rules.ratio x.job.value) (seen_value i) heavy)) i_low least
+              (subst (IsHeavy J.rules.ratio x.job.value) (seen_value s i) heavy)) i_low least
               (λ p p_member e. goes_on J.rules.finishes p.task
               (some_left p p_member (passes is_privileged p.task Running true e refl)) (decided.0 p p_member e))
               decided.0)))
@@ -277,15 +248,14 @@ module _ (processors : ℕ) (J : Instance) (valid : IsValid J) (some : 1 ≤ pro
     is_seen = which processors J valid some J.rules s keeps q member
 
     here : q.view.privileged_value ≡ own_sum q.processor value_of s.jobs
-    here = ap (λ (o : Seen). o.view.privileged_value) is_seen.0 ∙ seen_value q.processor
+    here = ap (λ (o : Seen). o.view.privileged_value) is_seen.0 ∙ seen_value s q.processor
 
     by_least : (is_take m ≡ false)
         ⊎ Each (λ o. (is_free o ≡ false) × (q.view.privileged_value ≤ o.view.privileged_value)) all
         → (is_take m ≡ false)
         ⊎ ((j : ℕ) → j < processors → own_sum q.processor value_of s.jobs ≤ own_sum j value_of s.jobs)
     by_least (inl is) = inl is
-    by_least (inr least) = inr
-        (λ j less. omega (arith, (least (seen J.rules.version s j) (see j less)).1, here, seen_value j))
+    by_least (inr least) = inr (λ j less. omega (arith, (least (seen J.rules.version s j) (see j less)).1, here, seen_value s j))
 
   -- ---- a tick comes before the last deadline
 

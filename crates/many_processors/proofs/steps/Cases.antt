@@ -43,7 +43,7 @@ try_split None other m is = inr (refl, is)
 try_split (Some x) other m is = inl is
 
 -- where neither is there
-try_none : {X : Type 0} (o other : Option X) → (o or_try other) ≡ None → (o ≡ None) × (other ≡ None)
+pub try_none : {X : Type 0} (o other : Option X) → (o or_try other) ≡ None → (o ≡ None) × (other ≡ None)
 try_none None other is = (refl, is)
 try_none (Some x) other is = none_is_some (sym is)
 
@@ -53,7 +53,7 @@ some_or_none None = inl refl
 some_or_none (Some x) = inr (x, refl)
 
 -- the first answer is that of a member
-answered : {X Y : Type 0} (f : X → Option Y) (xs : List X) (y : Y) → first_some f xs ≡ Some y
+pub answered : {X Y : Type 0} (f : X → Option Y) (xs : List X) (y : Y) → first_some f xs ≡ Some y
     → (x : X) × IsMember x xs × (f x ≡ Some y)
 answered f [] y is = none_is_some is
 answered f (x ∷ xs) y is = by_first (try_split (f x) (first_some f xs) y is) (answered f xs y) where
@@ -64,13 +64,13 @@ answered f (x ∷ xs) y is = by_first (try_split (f x) (first_some f xs) y is) (
   by_first (inr later) more = let it = more later.1 in (it.0, inr it.1, it.2)
 
 -- where there is none, no member answers
-unanswered : {X Y : Type 0} (f : X → Option Y) (xs : List X) → first_some f xs ≡ None → Each (λ x. f x ≡ None) xs
+pub unanswered : {X Y : Type 0} (f : X → Option Y) (xs : List X) → first_some f xs ≡ None → Each (λ x. f x ≡ None) xs
 unanswered f [] none y member = absurd member
 unanswered f (x ∷ xs) none y (inl e) = subst (λ z. f z ≡ None) (sym e) (try_none (f x) (first_some f xs) none).0
 unanswered f (x ∷ xs) none y (inr member) = unanswered f xs (try_none (f x) (first_some f xs) none).1 y member
 
 -- the answer for the one is that of some
-for_some : {X Y : Type 0} (f : X → Option Y) (o : Option X) (y : Y) → for_one f o ≡ Some y
+pub for_some : {X Y : Type 0} (f : X → Option Y) (o : Option X) (y : Y) → for_one f o ≡ Some y
     → (x : X) × (o ≡ Some x) × (f x ≡ Some y)
 for_some f None y is = none_is_some is
 for_some f (Some x) y is = (x, refl, is)
@@ -129,7 +129,7 @@ abbrev pub is_finished : List Finish → Task → Bool
 is_finished finishes t = left t == 0 || is_due finishes t
 
 -- where a processor has one that completes
-completion_acts : (finishes : List Finish) (q : Seen) (m : Move) (o : Option Task) → completion_of q o ≡ Some m
+pub completion_acts : (finishes : List Finish) (q : Seen) (m : Move) (o : Option Task) → completion_of q o ≡ Some m
     → (t : Task) × (o ≡ Some t) × (is_finished finishes t ≡ true)
     × (m ≡ Prints q.processor (Complete q.view.clock t.number))
 completion_acts finishes q m None some = none_is_some some
@@ -200,7 +200,7 @@ arrival_takes q m some = by_parts q.view.coming some where
     by_time true some = ap is_take (sym (some_same _ _ some))
 
 -- cases 2 and 3 do
-resumption_runs : (q : Seen) (m : Move) → resumption q ≡ Some m → is_run m ≡ true
+pub resumption_runs : (q : Seen) (m : Move) → resumption q ≡ Some m → is_run m ≡ true
 resumption_runs q m some = by_held q.view.first_held some where
   by_parts : (ro : Option Task) (p : Task) → placed q (single.dispatch q.view ro (Some p) q.view.first_waiting) ≡ Some m
       → is_run m ≡ true
@@ -211,7 +211,7 @@ resumption_runs q m some = by_held q.view.first_held some where
   by_held None some = none_is_some some
   by_held (Some p) some = by_parts q.view.running p some
 
-dispatch_runs : (q : Seen) (m : Move) → dispatch q ≡ Some m → is_run m ≡ true
+pub dispatch_runs : (q : Seen) (m : Move) → dispatch q ≡ Some m → is_run m ≡ true
 dispatch_runs q m some = by_parts q.view.running q.view.first_held q.view.first_waiting some where
   by_parts : (ro p o : Option Task) → placed q (single.dispatch q.view ro p o) ≡ Some m → is_run m ≡ true
   by_parts (Some r) p o some = none_is_some some

@@ -69,9 +69,3 @@ filled_two (c ∷ cs) ds ns ms same = by_byte (c == 64) ns (λ ns. filled_two cs
   by_byte true (n ∷ ns) more same = ap (λ t. decimal n ++ t) (more ns (omega (arith, same)))
       ∙ sym (append_assoc (decimal n) (filled cs ns) (filled ds ms))
   by_byte false ns more same = ap (λ t. c ∷ t) (more ns same)
-
--- three templates
-pub filled_three : (cs ds es : Text) (ns ms ks : List ℕ) → uses cs ≡ length ns → uses (cs ++ ds) ≡ length (ns ++ ms)
-    → filled (cs ++ ds ++ es) (ns ++ ms ++ ks) ≡ filled cs ns ++ filled ds ms ++ filled es ks
-filled_three cs ds es ns ms ks one two = filled_two (cs ++ ds) es (ns ++ ms) ks two
-    ∙ ap (λ t. t ++ filled es ks) (filled_two cs ds ns ms one)

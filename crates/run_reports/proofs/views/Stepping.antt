@@ -1,4 +1,4 @@
--- The printed steps of a run beside what is weighed before each, one after another.
+-- How many printed steps of a run there are, beside what is weighed before each.
 use Rattle.std.proofs.Common.{◌≡◌, ℕ, suc, ◌+◌, ◌≤◌, ◌<◌, List, [], ◌∷◌, length, drop, get_or, refl, sym, ap, ◌∙◌}
 use Rattle.std.proofs.Common.{arith, add-one, drop-cons, zip, filter_map, option_map}
 use Rattle.std.specs.List.{cons_option}
@@ -9,22 +9,6 @@ use Rattle.dover_model.specs.Common.{Instance, Fraction, privileged, value_sum, 
 use Rattle.dover_model.specs.Common.{event_of, printed_of, run}
 use Rattle.run_record.specs.intervals.Rows.{IsRunOf, weight_of, weights}
 use Rattle.run_record.specs.ledger.Rooms.{room_before, room_of_step, rooms}
-
--- a step beside what is weighed, and those behind it
-pub zip_next : (steps : List Event) (worths : List ℕ) (i : ℕ) (e : Event) (w : ℕ) → e ≡ get_or steps i e
-    → w ≡ get_or worths i w
-    → i < length steps → length worths ≡ length steps → drop i (zip steps worths) ≡ (e, w) ∷ drop (i + 1)
-    (zip steps worths)
-zip_next steps worths i e w is weighs there same =
-    drop-cons (zip steps worths) i (e, w) (omega (arith, there, same, length-zip steps worths))
-    ∙ ap (λ x. x ∷ drop (suc i) (zip steps worths)) (get_or-zip steps worths i (e, w) there (omega
-    (arith, there, same))
-    ∙ ap (λ x. (x, get_or worths i w)) (sym is) ∙ ap (λ y. (e, y)) (sym weighs))
-    ∙ ap (λ n. (e, w) ∷ drop n (zip steps worths)) (sym (add-one i))
-
--- behind the last one
-pub zip_end : (steps : List Event) (worths : List ℕ) (i : ℕ) → length steps ≤ i → drop i (zip steps worths) ≡ []
-zip_end steps worths i past = drop_all i (zip steps worths) (omega (arith, past, length-zip steps worths))
 
 -- as many are weighed as are printed
 as_many : (steps : List Step) → length (filter_map weight_of steps) ≡ length (printed_of steps)

@@ -1,4 +1,4 @@
--- Reports for a viewer and on one job, by computation.
+-- Reports for a terminal and on one job, by computation.
 use Rattle.std.proofs.Common.{◌≡◌, [], ◌∷◌, ◌++◌, refl, codes, Some, None}
 use Rattle.std.specs.Fmt.{digits}
 use Rattle.dover_model.specs.Instance.{Instance}
@@ -9,7 +9,6 @@ use Rattle.dover_model.proofs.rows.Written.{job, one}
 use Rattle.run_reports.proofs.report.WorkedRows.{finish, finishing, held_and_early, anomaly, took_and_early}
 use Rattle.run_reports.proofs.report.WorkedRows.{with_a_factor}
 use Rattle.run_reports.specs.views.Templates.{filled}
-use Rattle.run_reports.specs.views.Chrome.{chrome}
 use Rattle.run_reports.specs.views.Why.{why, tested, greatest_ratio}
 use Rattle.run_reports.specs.views.Timeline.{grouped_timeline, timeline}
 
@@ -108,32 +107,6 @@ unknown_job : why 3 take_over ≡
     codes "no job 3 among 3\n"
 unfolding digits filled
 unknown_job = refl
-
-viewed_run : chrome take_over ≡
-    codes "{\"traceEvents\":[\n"
-    ++ codes "{\"pid\":0,\"tid\":0,\"ph\":\"M\",\"name\":\"thread_name\",\"args\":{\"name\":\"processor\"}}\n"
-    ++ codes ",{\"pid\":0,\"tid\":0,\"ph\":\"b\",\"ts\":0,\"cat\":\"job\",\"id\":\"0\",\"name\":\"job 0\",\"args\":{\"work\":3,\"deadline\":30,\"value\":3}}\n"
-    ++ codes ",{\"pid\":0,\"tid\":0,\"ph\":\"B\",\"ts\":0,\"name\":\"job 0\"}\n"
-    ++ codes ",{\"pid\":0,\"tid\":0,\"ph\":\"b\",\"ts\":0,\"cat\":\"job\",\"id\":\"1\",\"name\":\"job 1\",\"args\":{\"work\":2,\"deadline\":4,\"value\":2}}\n"
-    ++ codes ",{\"pid\":0,\"tid\":0,\"ph\":\"E\",\"ts\":0,\"name\":\"job 0\"}\n"
-    ++ codes ",{\"pid\":0,\"tid\":0,\"ph\":\"B\",\"ts\":0,\"name\":\"job 1\"}\n"
-    ++ codes ",{\"pid\":0,\"tid\":0,\"ph\":\"b\",\"ts\":0,\"cat\":\"job\",\"id\":\"2\",\"name\":\"job 2\",\"args\":{\"work\":12,\"deadline\":12,\"value\":12}}\n"
-    ++ codes ",{\"pid\":0,\"tid\":0,\"ph\":\"E\",\"ts\":0,\"name\":\"job 1\"}\n"
-    ++ codes ",{\"pid\":0,\"tid\":0,\"ph\":\"B\",\"ts\":0,\"name\":\"job 2\"}\n"
-    ++ codes ",{\"pid\":0,\"tid\":0,\"ph\":\"i\",\"ts\":0,\"s\":\"g\",\"name\":\"take job 2\",\"args\":{\"value\":12,\"against\":5}}\n"
-    ++ codes ",{\"pid\":0,\"tid\":0,\"ph\":\"e\",\"ts\":2,\"cat\":\"job\",\"id\":\"1\",\"name\":\"job 1\",\"args\":{\"fate\":\"abandon\"}}\n"
-    ++ codes ",{\"pid\":0,\"tid\":0,\"ph\":\"i\",\"ts\":2,\"s\":\"g\",\"name\":\"abandon job 1\",\"args\":{\"value\":2,\"against\":12}}\n"
-    ++ codes ",{\"pid\":0,\"tid\":0,\"ph\":\"C\",\"ts\":2,\"name\":\"value\",\"args\":{\"completed\":0,\"lost\":2}}\n"
-    ++ codes ",{\"pid\":0,\"tid\":0,\"ph\":\"E\",\"ts\":12,\"name\":\"job 2\"}\n"
-    ++ codes ",{\"pid\":0,\"tid\":0,\"ph\":\"e\",\"ts\":12,\"cat\":\"job\",\"id\":\"2\",\"name\":\"job 2\",\"args\":{\"fate\":\"complete\"}}\n"
-    ++ codes ",{\"pid\":0,\"tid\":0,\"ph\":\"C\",\"ts\":12,\"name\":\"value\",\"args\":{\"completed\":12,\"lost\":2}}\n"
-    ++ codes ",{\"pid\":0,\"tid\":0,\"ph\":\"B\",\"ts\":12,\"name\":\"job 0\"}\n"
-    ++ codes ",{\"pid\":0,\"tid\":0,\"ph\":\"E\",\"ts\":15,\"name\":\"job 0\"}\n"
-    ++ codes ",{\"pid\":0,\"tid\":0,\"ph\":\"e\",\"ts\":15,\"cat\":\"job\",\"id\":\"0\",\"name\":\"job 0\",\"args\":{\"fate\":\"complete\"}}\n"
-    ++ codes ",{\"pid\":0,\"tid\":0,\"ph\":\"C\",\"ts\":15,\"name\":\"value\",\"args\":{\"completed\":15,\"lost\":2}}\n"
-    ++ codes "]}\n"
-unfolding digits filled
-viewed_run = refl
 
 -- the whole run
 drawn_run : timeline None take_over ≡
@@ -261,25 +234,6 @@ weighed_behind : why 2 anomaly ≡
     ++ codes "at 2 it is abandoned, its value 3 against 2 under way: 1 * 1^2 = 1 not above 1 * 2^2 = 4; heavy from 5 on, with this value for no k\n"
 unfolding digits filled tested greatest_ratio
 weighed_behind = refl
-
-viewed_early : chrome held_and_early ≡
-    codes "{\"traceEvents\":[\n"
-    ++ codes "{\"pid\":0,\"tid\":0,\"ph\":\"M\",\"name\":\"thread_name\",\"args\":{\"name\":\"processor\"}}\n"
-    ++ codes ",{\"pid\":0,\"tid\":0,\"ph\":\"b\",\"ts\":0,\"cat\":\"job\",\"id\":\"0\",\"name\":\"job 0\",\"args\":{\"work\":4,\"deadline\":10,\"value\":4}}\n"
-    ++ codes ",{\"pid\":0,\"tid\":0,\"ph\":\"B\",\"ts\":0,\"name\":\"job 0\"}\n"
-    ++ codes ",{\"pid\":0,\"tid\":0,\"ph\":\"b\",\"ts\":1,\"cat\":\"job\",\"id\":\"1\",\"name\":\"job 1\",\"args\":{\"work\":2,\"deadline\":5,\"value\":2}}\n"
-    ++ codes ",{\"pid\":0,\"tid\":0,\"ph\":\"E\",\"ts\":1,\"name\":\"job 0\"}\n"
-    ++ codes ",{\"pid\":0,\"tid\":0,\"ph\":\"B\",\"ts\":1,\"name\":\"job 1\"}\n"
-    ++ codes ",{\"pid\":0,\"tid\":0,\"ph\":\"E\",\"ts\":2,\"name\":\"job 1\"}\n"
-    ++ codes ",{\"pid\":0,\"tid\":0,\"ph\":\"e\",\"ts\":2,\"cat\":\"job\",\"id\":\"1\",\"name\":\"job 1\",\"args\":{\"fate\":\"complete\",\"had\":1}}\n"
-    ++ codes ",{\"pid\":0,\"tid\":0,\"ph\":\"C\",\"ts\":2,\"name\":\"value\",\"args\":{\"completed\":2,\"lost\":0}}\n"
-    ++ codes ",{\"pid\":0,\"tid\":0,\"ph\":\"B\",\"ts\":2,\"name\":\"job 0\"}\n"
-    ++ codes ",{\"pid\":0,\"tid\":0,\"ph\":\"E\",\"ts\":4,\"name\":\"job 0\"}\n"
-    ++ codes ",{\"pid\":0,\"tid\":0,\"ph\":\"e\",\"ts\":4,\"cat\":\"job\",\"id\":\"0\",\"name\":\"job 0\",\"args\":{\"fate\":\"complete\",\"had\":3}}\n"
-    ++ codes ",{\"pid\":0,\"tid\":0,\"ph\":\"C\",\"ts\":4,\"name\":\"value\",\"args\":{\"completed\":6,\"lost\":0}}\n"
-    ++ codes "]}\n"
-unfolding digits filled
-viewed_early = refl
 
 -- the pieces of a job end where it did, and nothing new is drawn
 drawn_early : timeline None held_and_early ≡

@@ -95,7 +95,7 @@ pub(crate) fn releases(run: &[PackedEvent]) -> usize
 }
 
 /// The value of the job of this number, 0 for none.
-pub fn value_of(jobs: &[Job], number: u32) -> u64
+pub(crate) fn value_of(jobs: &[Job], number: u32) -> u64
     ensures is { result ≡ value_in jobs.now number }
     ensures modest { result ≤ most_value }
 {

@@ -100,7 +100,7 @@ pub(crate) fn had_at(early: bool, served: &[u64], number: usize) -> Option<u64>
 }
 
 /// The ticks that the job of this number had, 0 for none.
-pub fn had_of(served: &[u64], number: usize) -> u64
+fn had_of(served: &[u64], number: usize) -> u64
     ensures { result ≡ slice_index_or served.now number 0 }
 {
     match served.get(number) {
@@ -110,7 +110,7 @@ pub fn had_of(served: &[u64], number: usize) -> u64
 }
 
 /// The work that is left of the job that a step completes, in ticks, and 0 for another step.
-pub fn left_at(jobs: &[Job], served: &[u64], event: &PackedEvent) -> u64
+pub(crate) fn left_at(jobs: &[Job], served: &[u64], event: &PackedEvent) -> u64
     ensures is { result ≡ left_at jobs.now served.now event.now }
     ensures modest { result ≤ most_work }
 {
@@ -121,7 +121,7 @@ pub fn left_at(jobs: &[Job], served: &[u64], event: &PackedEvent) -> u64
 }
 
 /// The work that is left of the job of this number, in ticks, by the ticks that the jobs had; 0 where there is none.
-pub fn left_of(jobs: &[Job], served: &[u64], number: usize) -> u64
+fn left_of(jobs: &[Job], served: &[u64], number: usize) -> u64
     ensures is { result ≡ left_in jobs.now served.now number }
     ensures modest { result ≤ most_work }
 {

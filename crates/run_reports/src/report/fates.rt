@@ -48,7 +48,7 @@ pub fn fates_of(jobs: &[Job], run: &[PackedEvent]) -> Fates
 }
 
 /// The value of the job that a step completes, and 0 for another step.
-pub(crate) fn done_at(jobs: &[Job], event: &PackedEvent) -> u64
+fn done_at(jobs: &[Job], event: &PackedEvent) -> u64
     ensures is { result ≡ model.value_done jobs.now event.now }
     ensures modest { result ≤ most_value }
 {
@@ -59,7 +59,7 @@ pub(crate) fn done_at(jobs: &[Job], event: &PackedEvent) -> u64
 }
 
 /// The value of the job that a step abandons, and 0 for another step.
-pub(crate) fn lost_at(jobs: &[Job], event: &PackedEvent) -> u64
+fn lost_at(jobs: &[Job], event: &PackedEvent) -> u64
     ensures is { result ≡ value_lost jobs.now event.now }
     ensures modest { result ≤ most_value }
 {

@@ -1,5 +1,6 @@
 -- What is told of a text, and what is put of it.
-use Rattle.std.proofs.Common.{◌≡◌, ℕ, List, [], refl, sym, ap, ◌∙◌, subst, Option, Bool, true, Ok, Err}
+use Rattle.std.proofs.Common.{◌≡◌, ℕ, List, [], refl, sym, ap, ◌∙◌, subst, Option, Bool, true, Result, Ok, Err}
+use Rattle.std.proofs.Common.{IsOk, IfOk, false}
 use Rattle.run_record.specs.intervals.Rows.{IsRunOf}
 use Rattle.dover_model.specs.Common.{Fraction, Instance, IsListable, printed, instance_of}
 use Rattle.dover_model.specs.Verdict as model
@@ -20,7 +21,7 @@ use Rattle.trace_judge.specs.Judging.{Tells, steps_told}
 use Rattle.trace_judge.specs.declared.verdict.Verdict.{Verdict}
 use Rattle.trace_judge.specs.declared.verdict.Verdict.TheVariants.{Accepted, Wrong, Short}
 use Rattle.trace_words.specs.declared.report.form.Form.{Form}
-use Rattle.trace_words.specs.report.Talk.{IsListed, SaysReport, report_text, told, report_talk}
+use Rattle.trace_words.specs.report.Talk.{IsListed, IsReport, IsTold, SaysReport, report_talk}
 use Rattle.trace_words.specs.report.Talking.{Puts}
 use Rattle.dover_model.proofs.sessions.SessionParts.{session_jobs}
 
@@ -29,6 +30,26 @@ pub same_run : (k : Fraction) (J : Instance) (es fs : List Event) → es ≡ fs 
 same_run k J es fs same is = subst (λ xs. IsRunOf k xs J) (sym same) is
 
 -- ---- what is put
+
+module _ {V E : Type 0} (items : V → List ℕ) (Holds : List ℕ → Type 0) where
+  -- what holds of a text that stands in memory holds of what is said, if that is this text
+  of_whole : (text : Result V E) (said : List ℕ) → IsOk text × IfOk text (λ v. said ≡ items v)
+      → IfOk text (λ v. Holds (items v)) → Holds said
+  of_whole (Ok v) said it holds = subst Holds (sym it.1) holds
+  of_whole (Err e) said it holds = absurd (let e : false ≡ true = it.0 in cc)
+
+  -- what was put of it
+  pub whole_put : {T : Type 0} (text : Result V E) (r : Result T Stop) (a b : Option (List Move)) (q : List ℕ)
+      → Puts r a b q (λ said. IsOk text × IfOk text (λ v. said ≡ items v)) → IfOk text (λ v. Holds (items v))
+      → Puts r a b q Holds
+  whole_put text (Ok x) a b q put holds = (put.0, of_whole text put.0 put.1 holds, put.2)
+  whole_put text (Err NoMemory) a b q none holds = none
+  whole_put text (Err Unwritten) a b q cut holds = (cut.0, of_whole text cut.0 cut.1 holds, cut.2)
+
+-- nothing is said of what was made
+pub all_ok : {T E : Type 0} (made : Result T E) → IfOk made (λ x. Unit {0})
+all_ok (Ok x) = tt
+all_ok (Err e) = tt
 
 module _ (form : Form) (text : List ℕ) (ended : Bool) (a b : Option (List Move)) (q : List ℕ) where
   -- what is said was put
@@ -71,41 +92,39 @@ module _ (k : Fraction) (version : Version) (value most jobs : ℕ) (text : List
   module _ (form : Form) (ended : Bool) (a b : Option (List Move)) (q : List ℕ) where
     -- ---- the report
 
-    module _ (refused : ℕ) (refused_is : refused ≡ model.refused_count tells.0)
-        (it : IsListable (instance_of tells.0)) where
-      -- what is told of it is the report
-      told_report : report_text form refused (instance_of tells.0) ≡ told form (model.verdict text)
-      told_report = ap (λ n. report_text form n (instance_of tells.0)) refused_is ∙ sym (ap (told form) tells.1)
+    module _ (it : IsListable (instance_of tells.0)) where
+      -- the report is told of it
+      says_report : (said : List ℕ) → IsReport form (instance_of tells.0) said → SaysReport form Done text said
+      says_report said is = (trace, listed it, subst (λ v. IsTold form v said) (sym tells.1) is)
 
       -- the report was put
-      pub reported : (x : Unit {0}) → Puts (Ok x) a b q (report_text form refused (instance_of tells.0))
+      pub reported : (x : Unit {0}) → Puts (Ok x) a b q (IsReport form (instance_of tells.0))
           → AnswersBy (report_talk form) text ended a b q (Ok Done)
-      reported x put = says_put form text ended a b q Done tt _ (trace, listed it, told_report) put
+      reported x put = says_put form text ended a b q Done tt put.0 (says_report put.0 put.1) put.2
 
       -- it wasn't
-      pub unreported : (stop : Stop)
-          → Puts {T = Unit {0}} (Err stop) a b q (report_text form refused (instance_of tells.0))
+      pub unreported : (stop : Stop) → Puts {T = Unit {0}} (Err stop) a b q (IsReport form (instance_of tells.0))
           → AnswersBy (report_talk form) text ended a b q (Err stop)
       unreported NoMemory none_put = (λ _. trace, none_put)
-      unreported Unwritten cut = says_cut form text ended a b q Done _ (trace, listed it, told_report) cut
+      unreported Unwritten cut = says_cut form text ended a b q Done cut.0 (says_report cut.0 cut.1) cut.2
 
     -- ---- too many jobs
 
     module _ (none : q ≡ []) (too_many : IsListable (instance_of tells.0) → ⊥) where
       -- so it is refused
-      says_size : SaysReport form Refused text size_text
-      says_size = (trace, (λ all. too_many (all tells.0 tells.1)), refl)
+      says_size : (said : List ℕ) → said ≡ size_text → SaysReport form Refused text said
+      says_size said is = (trace, (λ all. too_many (all tells.0 tells.1)), is)
 
       -- that was put
-      pub refused_size : (x : Unit {0}) → Puts (Ok x) a b [] size_text
+      pub refused_size : (x : Unit {0}) → Puts (Ok x) a b [] (λ said. said ≡ size_text)
           → AnswersBy (report_talk form) text ended a b q (Ok Refused)
-      refused_size x put = says_put form text ended a b q Refused tt size_text says_size (rw none put)
+      refused_size x put = says_put form text ended a b q Refused tt put.0 (says_size put.0 put.1) (rw none put.2)
 
       -- it wasn't
-      pub unrefused_size : (stop : Stop) → Puts {T = Unit {0}} (Err stop) a b [] size_text
+      pub unrefused_size : (stop : Stop) → Puts {T = Unit {0}} (Err stop) a b [] (λ said. said ≡ size_text)
           → AnswersBy (report_talk form) text ended a b q (Err stop)
       unrefused_size NoMemory none_put = (λ _. trace, rw none none_put)
-      unrefused_size Unwritten cut = says_cut form text ended a b q Refused size_text says_size cut
+      unrefused_size Unwritten cut = says_cut form text ended a b q Refused cut.0 (says_size cut.0 cut.1) cut.2
 
 -- ---- the line of a verdict
 
@@ -120,9 +139,9 @@ module _ (form : Form) (v : Verdict) (text : List ℕ) (ended : Bool) (tells : T
         → IsFinal (status_of v) × SaysReport form (status_of v) text (verdict_text (model.verdict text))
     by_verdict_of (Accepted k version value most jobs) tells none = absurd (none k version value most jobs refl)
     by_verdict_of (Wrong line due) tells none =
-        (tt, ((by_verdict (Wrong line due) text tells).1, ap verdict_text tells ∙ sym (ap (told form) tells)))
+        (tt, ((by_verdict (Wrong line due) text tells).1, subst (λ w. IsTold form w (verdict_text w)) (sym tells) refl))
     by_verdict_of (Short lines) tells none =
-        (tt, ((by_verdict (Short lines) text tells).1, ap verdict_text tells ∙ sym (ap (told form) tells)))
+        (tt, ((by_verdict (Short lines) text tells).1, subst (λ w. IsTold form w (verdict_text w)) (sym tells) refl))
 
   -- it was put
   pub refused : Passes a b [] q (verdict_text (model.verdict text))

@@ -1,10 +1,16 @@
--- The rows of a table, put one behind another.
+-- A text that is put as a whole, and the rows of a table, put one behind another.
 use Rattle.std.proofs.Common.{◌≡◌, ◌<◌, ℕ, List, [], ◌++◌, length, Option, Bool, true, false, append_assoc}
 use Rattle.std.proofs.Common.{append-nil, refl, sym, ap, ◌∙◌, subst, arith}
 use Rattle.dover_model.specs.Lines.{in_lines}
-use Rattle.dover_port.specs.Moves.{Move, Passes, CutsShort}
+use Rattle.dover_port.specs.Moves.{Move, ArePuts, CutsShort, Passes, Since, outs}
+use Rattle.dover_port.proofs.Made.{since_weaker}
 use Rattle.dover_port.proofs.Through.{passes_then, passes_then_cut, cut_longer, passes_nothing}
 use Rattle.run_reports.specs.report.Rows.{Table, GivesRow}
+
+-- a text that was put passes
+pub passes_whole : (a b : Option (List Move)) (text : List ℕ) → Since a b (λ made. ArePuts made × (outs made ≡ text))
+    → Passes a b [] [] text
+passes_whole a b text put = since_weaker a b _ _ put (λ made it. (it.0, append-nil (outs made) ∙ it.1))
 
 -- Of the whole text a front was put, and these rows are left.
 pub record HasPut (old new : Option (List Move)) (before after whole : List ℕ) (left : Table) : Type 0 where

@@ -16,7 +16,7 @@ use Rattle.schedule_judge.specs.declared.reader.Closed.{Closed}
 use Rattle.schedule_judge.specs.declared.reader.ScheduleReader.{ScheduleReader}
 use Rattle.schedule_judge.proofs.Accounts.{closed_account, open_bytes}
 use Rattle.trace_words.specs.report.Talking.{Puts}
-use Rattle.trace_words.specs.schedule.Talk.{schedule_text, stopped_text, said_by, status_of, IsSaid, schedule_talk}
+use Rattle.trace_words.specs.schedule.Talk.{IsDrawn, stopped_text, IsSaidBy, status_of, IsSaid, schedule_talk}
 use Rattle.trace_words.specs.declared.schedule.form.ScheduleForm.{ScheduleForm}
 
 -- ---- the laws
@@ -47,42 +47,44 @@ is_final TooMany = tt
 
 module _ (form : ScheduleForm) (x : List ℕ) (closed : Closed) (it : IsClosed closed (account x)) where
   -- the report is said of a schedule that has ended
-  said_ended : closed.standing ≡ Ended → IsSaid form (account x) Done (schedule_text form closed.steps.items)
-  said_ended ended = let at : (account x).standing ≡ Ended = sym it.standing ∙ ended in record {
+  said_ended : closed.standing ≡ Ended → (said : List ℕ) → IsDrawn form closed.steps.items said
+      → IsSaid form (account x) Done said
+  said_ended ended said is = let at : (account x).standing ≡ Ended = sym it.standing ∙ ended in record {
     status_is = ap status_of (sym at);
-    text_is = ap (schedule_text form) it.steps ∙ ap (said_by form (account x)) (sym at);
+    text_is = subst (λ s. IsSaidBy form (account x) s said) (sym at) (subst (λ es. IsDrawn form es said) it.steps is);
   }
 
   -- the report was put
   pub drawn : (ended : Bool) → closed.standing ≡ Ended → (a b : Option (List Move)) (q : List ℕ)
-      → Passes a b [] q (schedule_text form closed.steps.items)
+      → (y : Unit {0}) → Puts (Ok y) a b q (IsDrawn form closed.steps.items)
       → AnswersBy (schedule_talk form) x ended a b q (Ok Done)
-  drawn ended over a b q put = (tt, (schedule_text form closed.steps.items, said_ended over, put))
+  drawn ended over a b q y put = (tt, (put.0, said_ended over put.0 put.1, put.2))
 
   -- it wasn't
   pub not_drawn : (ended : Bool) → closed.standing ≡ Ended → IsOver (schedule_talk form) x ended
       → (a b : Option (List Move)) (q : List ℕ) (stop : Stop)
-      → Puts {T = Unit {0}} (Err stop) a b q (schedule_text form closed.steps.items)
+      → Puts {T = Unit {0}} (Err stop) a b q (IsDrawn form closed.steps.items)
       → AnswersBy (schedule_talk form) x ended a b q (Err stop)
   not_drawn ended over talk a b q NoMemory kept = (sym talk ∙ ap goes_on (sym it.standing ∙ over), kept)
-  not_drawn ended over talk a b q Unwritten cut =
-      (Done, schedule_text form closed.steps.items, said_ended over, cut)
+  not_drawn ended over talk a b q Unwritten cut = (Done, cut.0, said_ended over cut.0 cut.1, cut.2)
 
   -- another text is said to be so
   said_stopped : (s : Standing) → closed.standing ≡ s → (s ≡ Ended → ⊥)
       → IsSaid form (account x) (status_of s) (stopped_text closed.lines s)
   said_stopped s is going = record {
     status_is = ap status_of at;
-    text_is = ap (λ n. stopped_text n s) it.lines ∙ same s going ∙ ap (said_by form (account x)) at;
+    text_is = subst (λ t. IsSaidBy form (account x) t (stopped_text closed.lines s)) at
+        (same s going (ap (λ n. stopped_text n s) it.lines));
   } where
     at : s ≡ (account x).standing
     at = sym is ∙ it.standing
 
-    same : (t : Standing) → (t ≡ Ended → ⊥) → stopped_text (account x).lines t ≡ said_by form (account x) t
-    same Open other = refl
-    same Ended other = absurd (other refl)
-    same (Wrong c) other = refl
-    same TooMany other = refl
+    same : (t : Standing) → (t ≡ Ended → ⊥) → {said : List ℕ} → said ≡ stopped_text (account x).lines t
+        → IsSaidBy form (account x) t said
+    same Open other is = is
+    same Ended other is = absurd (other refl)
+    same (Wrong c) other is = is
+    same TooMany other is = is
 
   -- that was put
   pub stopped : (ended : Bool) (s : Standing) (status : Status) → status ≡ status_of s → closed.standing ≡ s
@@ -102,14 +104,14 @@ module _ (form : ScheduleForm) (x : List ℕ) (closed : Closed) (it : IsClosed c
 module _ (f form : ScheduleForm) (same : f ≡ form) (x : List ℕ) (closed : Closed) (it : IsClosed closed (account x))
   where
     pub drawn_so : (ended : Bool) → closed.standing ≡ Ended → (a b : Option (List Move)) (q : List ℕ)
-        → Passes a b [] q (schedule_text f closed.steps.items)
+        → (y : Unit {0}) → Puts (Ok y) a b q (IsDrawn f closed.steps.items)
         → AnswersBy (schedule_talk form) x ended a b q (Ok Done)
-    drawn_so ended over a b q put = drawn form x closed it ended over a b q
-        (subst (λ g. Passes a b [] q (schedule_text g closed.steps.items)) same put)
+    drawn_so ended over a b q y put = drawn form x closed it ended over a b q y
+        (subst (λ g. Puts (Ok y) a b q (IsDrawn g closed.steps.items)) same put)
 
     pub not_drawn_so : (ended : Bool) → closed.standing ≡ Ended → is_open (account x) ≡ ended
         → (a b : Option (List Move)) (q : List ℕ) (stop : Stop)
-        → Puts {T = Unit {0}} (Err stop) a b q (schedule_text f closed.steps.items)
+        → Puts {T = Unit {0}} (Err stop) a b q (IsDrawn f closed.steps.items)
         → AnswersBy (schedule_talk form) x ended a b q (Err stop)
     not_drawn_so ended over talk a b q stop put = not_drawn form x closed it ended over talk a b q stop
-        (subst (λ g. Puts {T = Unit {0}} (Err stop) a b q (schedule_text g closed.steps.items)) same put)
+        (subst (λ g. Puts {T = Unit {0}} (Err stop) a b q (IsDrawn g closed.steps.items)) same put)

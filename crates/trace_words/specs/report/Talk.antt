@@ -7,28 +7,26 @@ use Rattle.dialogue.specs.Sizes.{size_text}
 use Rattle.dialogue.specs.Talk.{Talk}
 use Rattle.trace_words.specs.judge.Line.{verdict_text}
 use Rattle.trace_words.specs.judge.Talk.{Says, IsNoTrace, IsTrace, judging_talk}
-use Rattle.run_reports.specs.views.Chrome.{chrome}
 use Rattle.run_reports.specs.views.Why.{why}
 use Rattle.run_reports.specs.views.Timeline.{timeline}
-use Rattle.run_picture.specs.Pictures.{picture}
 use Rattle.trace_words.specs.declared.report.form.Form.{Form}
 use Rattle.trace_words.specs.declared.report.form.Form.TheVariants.{Text, Table, Chrome, Why, Timeline, Svg}
 
--- the report on the run of these jobs, the table of it, its events for a viewer, the story of one job, or a picture
--- for a terminal or as SVG, whose title says how many refused lines there are
-abbrev pub report_text : Form → (refused : ℕ) → Instance → List ℕ
-report_text Text refused J = report J
-report_text Table refused J = table J
-report_text Chrome refused J = chrome J
-report_text (Why n) refused J = why n J
-report_text (Timeline window) refused J = timeline window J
-report_text (Svg window) refused J = picture window refused J
+-- the text is the report on the run of these jobs, the table of it, the story of one job, or a picture for a terminal;
+-- a picture for a browser, and events for a viewer, are some text, which is tested and not proved
+abbrev pub IsReport : Form → Instance → (text : List ℕ) → Type 0
+IsReport Text J text = text ≡ report J
+IsReport Table J text = text ≡ table J
+IsReport (Why n) J text = text ≡ why n J
+IsReport (Timeline window) J text = text ≡ timeline window J
+IsReport Chrome J text = Unit {0}
+IsReport (Svg window) J text = Unit {0}
 
--- what is told of a text by its verdict: the report on the run of an accepted trace, and else the line of the verdict
-abbrev pub told : Form → model.Verdict → List ℕ
-told form (model.Accepted S) = report_text form (model.refused_count S) (instance_of S)
-told form (model.Wrong line due) = verdict_text (model.Wrong line due)
-told form (model.Short lines) = verdict_text (model.Short lines)
+-- it is told of a text by its verdict: the report on the run of an accepted trace, and else the line of the verdict
+abbrev pub IsTold : Form → model.Verdict → (text : List ℕ) → Type 0
+IsTold form (model.Accepted S) text = IsReport form (instance_of S) text
+IsTold form (model.Wrong line due) text = text ≡ verdict_text (model.Wrong line due)
+IsTold form (model.Short lines) text = text ≡ verdict_text (model.Short lines)
 
 -- where the bytes are a trace, its jobs are within what a report keeps
 abbrev pub IsListed : List ℕ → Type 0
@@ -37,8 +35,8 @@ IsListed bytes = (S : Session) → model.verdict bytes ≡ model.Accepted S → 
 -- Done with the report on the run of an accepted trace, Refused exactly where its jobs are beyond what a report keeps,
 -- and No with the line of the verdict
 abbrev pub SaysReport : Form → Says
-SaysReport form Done bytes text = IsTrace bytes × IsListed bytes × (text ≡ told form (model.verdict bytes))
-SaysReport form No bytes text = IsNoTrace bytes × (text ≡ told form (model.verdict bytes))
+SaysReport form Done bytes text = IsTrace bytes × IsListed bytes × IsTold form (model.verdict bytes) text
+SaysReport form No bytes text = IsNoTrace bytes × IsTold form (model.verdict bytes) text
 SaysReport form Refused bytes text = IsTrace bytes × (IsListed bytes → ⊥) × (text ≡ size_text)
 SaysReport form _ bytes text = ⊥
 

@@ -4,8 +4,10 @@ use Rattle.dover_port.specs.Moves.{Move, Passes, CutsShort}
 use Rattle.dialogue.specs.declared.talker.Stop.{Stop}
 use Rattle.dialogue.specs.declared.talker.Stop.TheVariants.{NoMemory, Unwritten}
 
--- the text was put, but for what is kept back after, or a front of it that isn't all, or there was no memory for it
-abbrev pub Puts : {T : Type 0} → Result T Stop → (old new : Option (List Move)) → (after text : List ℕ) → Type 0
-Puts (Ok x) old new after text = Passes old new [] after text
-Puts (Err NoMemory) old new after text = Passes old new [] after []
-Puts (Err Unwritten) old new after text = CutsShort old new [] text
+-- a text of which this holds was put, but for what is kept back after, or a front of it that isn't all, or there was no
+-- memory for it
+abbrev pub Puts : {T : Type 0} → Result T Stop → (old new : Option (List Move)) → (after : List ℕ)
+    → (Holds : List ℕ → Type 0) → Type 0
+Puts (Ok x) old new after Holds = (text : List ℕ) × Holds text × Passes old new [] after text
+Puts (Err NoMemory) old new after Holds = Passes old new [] after []
+Puts (Err Unwritten) old new after Holds = (text : List ℕ) × Holds text × CutsShort old new [] text

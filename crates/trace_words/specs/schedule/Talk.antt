@@ -8,7 +8,6 @@ use Rattle.dialogue.specs.Sizes.{size_text}
 use Rattle.dialogue.specs.Talk.{Talk}
 use Rattle.run_reports.specs.report.Rows.{schedule_table}
 use Rattle.run_reports.specs.views.Timeline.{schedule_timeline}
-use Rattle.run_picture.specs.Pictures.{schedule_picture}
 use Rattle.schedule_judge.specs.Account.{Account, account, is_open}
 use Rattle.schedule_judge.specs.declared.causes.Cause.{Cause}
 use Rattle.schedule_judge.specs.declared.causes.Cause.TheVariants as cause
@@ -17,11 +16,12 @@ use Rattle.schedule_judge.specs.declared.intake.Standing.TheVariants.{Open, Ende
 use Rattle.trace_words.specs.declared.schedule.form.ScheduleForm.{ScheduleForm}
 use Rattle.trace_words.specs.declared.schedule.form.ScheduleForm.TheVariants.{Table, Timeline, Svg}
 
--- the report on a schedule with these steps
-abbrev pub schedule_text : ScheduleForm → List Event → List ℕ
-schedule_text Table run = schedule_table run
-schedule_text (Timeline window) run = schedule_timeline window run
-schedule_text (Svg window) run = schedule_picture window run
+-- the text is the table of a schedule with these steps, or a picture for a terminal; a picture for a browser is some
+-- text, which is tested and not proved
+abbrev pub IsDrawn : ScheduleForm → List Event → (text : List ℕ) → Type 0
+IsDrawn Table run text = text ≡ schedule_table run
+IsDrawn (Timeline window) run text = text ≡ schedule_timeline window run
+IsDrawn (Svg window) run text = Unit {0}
 
 -- the word for why a line is wrong
 abbrev pub cause_word : Cause → List ℕ
@@ -50,12 +50,12 @@ stopped_text lines Ended = []
 stopped_text lines (Wrong c) = wrong_text lines c
 stopped_text lines TooMany = size_text
 
--- what is said of a text of this account
-abbrev pub said_by : ScheduleForm → Account → Standing → List ℕ
-said_by form a Open = stopped_text a.lines Open
-said_by form a Ended = schedule_text form a.schedule.steps
-said_by form a (Wrong c) = stopped_text a.lines (Wrong c)
-said_by form a TooMany = stopped_text a.lines TooMany
+-- it is said of a text of this account
+abbrev pub IsSaidBy : ScheduleForm → Account → Standing → (text : List ℕ) → Type 0
+IsSaidBy form a Open text = text ≡ stopped_text a.lines Open
+IsSaidBy form a Ended text = IsDrawn form a.schedule.steps text
+IsSaidBy form a (Wrong c) text = text ≡ stopped_text a.lines (Wrong c)
+IsSaidBy form a TooMany text = text ≡ stopped_text a.lines TooMany
 
 -- and with which status
 abbrev pub status_of : Standing → Status
@@ -67,7 +67,7 @@ status_of TooMany = Refused
 -- the account of these bytes is answered so
 pub record IsSaid (form : ScheduleForm) (a : Account) (status : Status) (text : List ℕ) : Type 0 where
   pub status_is : status ≡ status_of a.standing
-  pub text_is : text ≡ said_by form a a.standing
+  pub text_is : IsSaidBy form a a.standing text
 
 -- Nothing is due before the end, which comes with the schedule's, its first wrong line, a job or a line too many, or
 -- the input's. Then this is said. Memory is lacking before the input's end alone.

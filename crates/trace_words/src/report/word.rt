@@ -1,5 +1,5 @@
 //! The word as a whole.
-ghost use Rattle.std.specs.Prelude.{◌≡◌, ◌≢◌, ◌↔◌, ◌++◌, ℕ, List, [], IsTrue, true, IfOk};
+ghost use Rattle.std.specs.Prelude.{◌≡◌, ◌≢◌, ◌↔◌, ◌++◌, List, [], IsTrue, true, IfOk, IsOk};
 ghost use Rattle.run_record.specs.intervals.Rows.{IsRunOf};
 ghost use Rattle.dover_model.specs.Common.{Fraction, Instance, IsListable, IsValid, in_lines, printed};
 ghost use Rattle.dover_model.specs.Reports as model;
@@ -10,7 +10,7 @@ ghost use Rattle.dialogue.specs.Talk.{Talks, CanEnd};
 ghost use Rattle.dialogue.specs.Turns.{StopCause, StopsOn};
 ghost use Rattle.trace_words.specs.judge.Spending.{IsFrugal};
 ghost use Rattle.trace_words.specs.judge.Talk.{IsTrace};
-ghost use Rattle.trace_words.specs.report.Talk.{report_text, report_talk, SaysReport};
+ghost use Rattle.trace_words.specs.report.Talk.{IsReport, report_talk, SaysReport};
 ghost use Rattle.trace_words.specs.report.Talking.{Puts};
 ghost use Rattle.trace_words.specs.declared.report.form.Form.TheVariants.{Text, Table};
 
@@ -21,9 +21,9 @@ use dialogue::Stop;
 use dover_model::{Memory, PackedEvent, Ratio, Version};
 use dover_port::{Failed, Output, Port, Status, put_all};
 use line_text::BackLine;
-use run_picture::picture;
+use run_picture::{chrome, picture};
 use run_reports::report::{Findings, TableRows, is_listable};
-use run_reports::views::{chrome, timeline, why};
+use run_reports::views::{timeline, why};
 use std::alloc::Global;
 use std::sync::ledger::Ledger;
 use trace_judge::{Closed, Verdict};
@@ -47,8 +47,8 @@ fn text_of(
 
 /// Puts a text that stands in memory as a whole, if there was memory for it.
 pub fn put_whole<P: Port>(port: &mut P, text: Result<Vec<u8>, Memory>) -> Result<(), Stop>
-    ensures puts { (said : List ℕ) → IfOk text (λ bytes. bytes.items ≡ said)
-        → Puts result (P.moves port.old) (P.moves port.new) [] said }
+    ensures puts { Puts result (P.moves port.old) (P.moves port.new) []
+        (λ said. IsOk text × IfOk text (λ bytes. said ≡ bytes.items)) }
     ensures cause { StopCause result
         (P.write_faults port.old) (P.write_faults port.new) (P.read_faults port.old) (P.read_faults port.new) }
     ensures stops { StopsOn result (P.calls port.old) (P.calls port.new) }
@@ -110,7 +110,7 @@ fn put_table<P: Port>(
     requires empty { out.old ≡ [] }
     requires run { (k : Fraction) × ((J : Instance) × IsRunOf k steps.items J) }
     ensures puts { (k : Fraction) (J : Instance) → IsRunOf k steps.items J → J.rules.version ≡ version →
-        Puts result (P.moves port.old) (P.moves port.new) out.new (model.table J) }
+        Puts result (P.moves port.old) (P.moves port.new) out.new (λ said. said ≡ model.table J) }
     ensures cause { StopCause result
         (P.write_faults port.old) (P.write_faults port.new) (P.read_faults port.old) (P.read_faults port.new) }
     ensures stops { StopsOn result (P.calls port.old) (P.calls port.new) }
@@ -137,7 +137,7 @@ fn view_of(
     requires no_text { form ≢ Text }
     requires no_table { form ≢ Table }
     ensures { (J : Instance) → IsRunOf ratio steps.now J → J.rules.version ≡ version →
-        IfOk result (λ text. text.items ≡ report_text form refused J) }
+        IfOk result (λ text. IsReport form J text.items) }
 {
     match form {
         Form::Chrome => chrome(alloc, ratio, steps),
@@ -163,7 +163,7 @@ fn put_report<P: Port>(
     requires empty { out.old ≡ [] }
     requires run { (J : Instance) × IsRunOf ratio steps.items J }
     ensures puts { (J : Instance) → IsRunOf ratio steps.items J → J.rules.version ≡ version →
-        Puts result (P.moves port.old) (P.moves port.new) out.new (report_text form refused J) }
+        Puts result (P.moves port.old) (P.moves port.new) out.new (IsReport form J) }
     ensures cause { StopCause result
         (P.write_faults port.old) (P.write_faults port.new) (P.read_faults port.old) (P.read_faults port.new) }
     ensures stops { StopsOn result (P.calls port.old) (P.calls port.new) }
@@ -177,7 +177,7 @@ fn put_report<P: Port>(
 
 /// Puts the line that refuses a trace whose jobs are beyond what a report keeps.
 pub fn put_size<P: Port>(port: &mut P) -> Result<(), Stop>
-    ensures puts { Puts result (P.moves port.old) (P.moves port.new) [] size_text }
+    ensures puts { Puts result (P.moves port.old) (P.moves port.new) [] (λ said. said ≡ size_text) }
     ensures cause { StopCause result
         (P.write_faults port.old) (P.write_faults port.new) (P.read_faults port.old) (P.read_faults port.new) }
     ensures stops { StopsOn result (P.calls port.old) (P.calls port.new) }

@@ -96,7 +96,8 @@ fn put_table<P: Port>(
 ) -> Result<(), Stop>
     requires empty { out.old ≡ [] }
     requires few { length steps.items ≤ 5_000_001 }
-    ensures puts { Puts result (P.moves port.old) (P.moves port.new) out.new (schedule_table steps.items) }
+    ensures puts { Puts result (P.moves port.old) (P.moves port.new) out.new
+        (λ said. said ≡ schedule_table steps.items) }
     ensures cause { StopCause result
         (P.write_faults port.old) (P.write_faults port.new) (P.read_faults port.old) (P.read_faults port.new) }
     ensures stops { StopsOn result (P.calls port.old) (P.calls port.new) }
@@ -121,7 +122,7 @@ pub(crate) fn put_schedule<P: Port>(
 ) -> Result<(), Stop>
     requires empty { out.old ≡ [] }
     requires few { length steps.items ≤ 5_000_001 }
-    ensures puts { Puts result (P.moves port.old) (P.moves port.new) out.new (talk.schedule_text form steps.items) }
+    ensures puts { Puts result (P.moves port.old) (P.moves port.new) out.new (talk.IsDrawn form steps.items) }
     ensures cause { StopCause result
         (P.write_faults port.old) (P.write_faults port.new) (P.read_faults port.old) (P.read_faults port.new) }
     ensures stops { StopsOn result (P.calls port.old) (P.calls port.new) }

@@ -1,6 +1,7 @@
 use Rattle.dover_c.proofs.Acts.{given_append}
 use Rattle.dover_c.proofs.Programs.{numbers, settled_given, ended_given, begins_given, within_given, observed_given}
 use Rattle.dover_c.proofs.Programs.{as_declared_given, honest_given, underload_given, unlost_given, done_given}
+use Rattle.dover_c.proofs.Programs.{named_given}
 use Rattle.dover_c.proofs.Programs.{within_anew, observed_anew, value_anew}
 use Rattle.dover_c.proofs.laws.a_program_is_given_one_run.Goals as goal
 
@@ -32,6 +33,9 @@ returns-clause-as_declared c = as_declared_given
 
 pub returns-clause-done : goal.returns-clause-done
 returns-clause-done c = done_given
+
+pub returns-clause-successor : goal.returns-clause-successor
+returns-clause-successor c = named_given
 
 pub returns-clause-honest : goal.returns-clause-honest
 returns-clause-honest c = honest_given

@@ -1,6 +1,7 @@
 use Rattle.many_processors.proofs.steps.Turns.{opening_kept, step_kept}
 use Rattle.many_processors.proofs.runs.EachStep.{each_step, busy_where_one_waits, busy_where_one_is_held}
 use Rattle.many_processors.proofs.runs.RunEnds.{run_ends, few_printed}
+use Rattle.many_processors.proofs.runs.Once.{preempts_once}
 use Rattle.many_processors.proofs.runs.RanFor.{ran_for}
 use Rattle.many_processors.proofs.runs.Honest.{ran_different, named_in_window, honest, done_finished, observed_all}
 use Rattle.std.proofs.Common.{◌≡◌, ℕ, ◌<◌, ◌⊎◌, true, false, refl}
@@ -9,6 +10,7 @@ use Rattle.dover_model.specs.Common.{Each, is_privileged}
 use Rattle.dover_model.proofs.steps.Roles.{passes}
 use Rattle.many_processors.specs.Step.{Ticks}
 use Rattle.many_processors.specs.Ticks.{SomeRunsOn, takes_or_abandons}
+use Rattle.many_processors.proofs.runs.OneProcessor.{one_prints}
 use Rattle.many_processors.proofs.runs.Underload.{step_keeps_all, all_completed}
 use Rattle.many_processors.proofs.run_laws.laws_of_runs.Goals as goal
 
@@ -23,6 +25,9 @@ returns-clause-ends c processors J some valid = run_ends processors J valid some
 
 pub returns-clause-few_steps : goal.returns-clause-few_steps
 returns-clause-few_steps c processors J some valid = few_printed processors J valid some
+
+pub returns-clause-preempts_once : goal.returns-clause-preempts_once
+returns-clause-preempts_once c processors J n some valid = preempts_once processors J valid some n
 
 pub returns-clause-few_at_once : goal.returns-clause-few_at_once
 returns-clause-few_at_once c processors J some valid = ran_for processors J valid some
@@ -61,3 +66,6 @@ returns-clause-none_lost c processors J some valid few = each_step processors J 
 
 pub returns-clause-all_value : goal.returns-clause-all_value
 returns-clause-all_value c processors J some valid few = all_completed processors J valid some few
+
+pub returns-clause-one_processor : goal.returns-clause-one_processor
+returns-clause-one_processor c = one_prints

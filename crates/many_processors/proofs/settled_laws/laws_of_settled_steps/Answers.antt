@@ -1,4 +1,7 @@
 use Rattle.many_processors.proofs.steps.Turns.{open_kept}
+use Rattle.many_processors.proofs.settled.Finishes.{further_begins, further_printed, yet_same, yet_state}
+use Rattle.many_processors.proofs.settled.Finishes.{alike_same, alike_state, order_alike}
+use Rattle.many_processors.proofs.settled.AtMark.{stays_at_mark, next_at_mark}
 use Rattle.many_processors.proofs.settled.Later.{same_step}
 use Rattle.many_processors.proofs.settled.Onlines.{on_line}
 use Rattle.many_processors.proofs.settled.Prefixes.{settled_prefix, printed_prefix}
@@ -41,3 +44,38 @@ returns-clause-at_the_end c processors J more mark some valid late =
 pub returns-clause-on_line : goal.returns-clause-on_line
 returns-clause-on_line c processors t J K some valid_J valid_K rules known =
     on_line processors t some J K valid_J valid_K rules known
+
+pub returns-clause-further_while_open : goal.returns-clause-further_while_open
+returns-clause-further_while_open c processors J more mark mark2 some valid later none =
+    further_begins processors J more some valid mark mark2 later none
+
+pub returns-clause-further_at_the_end : goal.returns-clause-further_at_the_end
+returns-clause-further_at_the_end c processors J more mark some valid none =
+    further_printed processors J more some valid mark none
+
+pub returns-clause-yet_to_come : goal.returns-clause-yet_to_come
+returns-clause-yet_to_come c processors J more mark some valid yet = yet_same processors J more some valid mark yet
+
+pub returns-clause-yet_to_come_state : goal.returns-clause-yet_to_come_state
+returns-clause-yet_to_come_state c processors J more mark some valid yet =
+    yet_state processors J more some valid mark yet
+
+pub returns-clause-due_alike : goal.returns-clause-due_alike
+returns-clause-due_alike c processors J finishes mark some valid alike =
+    alike_same processors J finishes some valid mark alike
+
+pub returns-clause-due_alike_state : goal.returns-clause-due_alike_state
+returns-clause-due_alike_state c processors J finishes mark some valid alike =
+    alike_state processors J finishes some valid mark alike
+
+pub returns-clause-another_order : goal.returns-clause-another_order
+returns-clause-another_order c processors J finishes s same one =
+    order_alike processors J.rules.version J.rules.finishes finishes s same one
+
+pub returns-clause-finish_at_mark_stays : goal.returns-clause-finish_at_mark_stays
+returns-clause-finish_at_mark_stays c processors J mark p some valid at =
+    stays_at_mark processors J valid some mark p at
+
+pub returns-clause-finish_at_mark_next : goal.returns-clause-finish_at_mark_next
+returns-clause-finish_at_mark_next c processors J mark p some valid at =
+    next_at_mark processors J valid some mark p at

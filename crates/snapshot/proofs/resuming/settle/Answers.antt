@@ -1,7 +1,7 @@
-use Rattle.std.proofs.Common.{subst}
+use Rattle.std.proofs.Common.{subst, ◌∙◌, arith}
 use Rattle.dover_model.specs.declared.horizon.Horizon.TheVariants.{Mark}
 use Rattle.ready_server.specs.Roster.{IsRollOf}
-use Rattle.ready_server.proofs.Rostered.{few_takes, line_left}
+use Rattle.ready_server.proofs.Rostered.{few_takes, line_left, finish_room}
 use Rattle.snapshot.proofs.Settling.{one_further, unreleased, too_many}
 use Rattle.snapshot.proofs.resuming.settle.Goals as goal
 
@@ -52,10 +52,22 @@ loop-step-preserved g c = record {
         line_left c.loop-step.roster c.read.new.self c.in-Some.event
             (unreleased c.loop-step.server c.step.new.self c.loop-step.roster r.0 c.args.mark c.loop-step._step it
             c.in-Some.event (c.in-Some.ensures.gives r.0 (Mark it.from) it.events it.served.served it.follows))
-            c.read.ensures.roll c.read.ensures.room before.1,
+            c.read.ensures.roll c.read.ensures.room.0 before.1,
       );
+  finish_room = c.read.ensures.room.1 ∙ c.loop-step.invariant.finish_room;
   paid = λ start paid. c.in-Some.ensures.paid start (c.loop-step.invariant.paid start paid);
 }
+
+pub read-requires-clause-finish_room : goal.read-requires-clause-finish_room
+read-requires-clause-finish_room g c at n is some =
+    let r = c.requires.serves in
+    let it = c.loop-step.invariant.on r.0 r.1 r.2 r.3 r.4 in
+    finish_room c.loop-step.roster c.step.new.self r.0 c.args.mark it.events it.served.read c.in-Some.event at n is
+    (c.in-Some.ensures.gives r.0 (Mark it.from) it.events it.served.served it.follows) some
+    (omega (arith, r.5, c.loop-step.invariant.finish_room))
+
+pub returns-in-None-clause-finish_room : goal.returns-in-None-clause-finish_room
+returns-in-None-clause-finish_room g c = c.loop-step.invariant.finish_room
 
 pub unreachable-requires : goal.unreachable-requires
 unreachable-requires g c =

@@ -4,12 +4,12 @@ use Rattle.task_report.proofs.telling.tell.Goals as goal
 pub tell_run-requires-clause-run : goal.tell_run-requires-clause-run
 tell_run-requires-clause-run g c = let tells = rw c.in-Accepted.is at c.requires.closed.1.tells in (
   tells.0,
-  run_by _ _ _ _ _ c.requires.closed.0 tells _ _ c.requires.closed.1.steps c.requires.closed.1.refused,
+  run_by _ _ _ _ _ c.requires.closed.0 tells _ c.requires.closed.1.steps,
 )
 
 pub returns-in-Accepted-clause-tells : goal.returns-in-Accepted-clause-tells
 returns-in-Accepted-clause-tells g c = λ trace closed. let tells = rw c.in-Accepted.is at closed.tells in
-    c.tell_run.ensures.tells trace tells.0 tells.1 (run_by _ _ _ _ _ trace tells _ _ closed.steps closed.refused)
+    c.tell_run.ensures.tells trace tells.0 tells.1 (run_by _ _ _ _ _ trace tells _ closed.steps)
 
 pub put_verdict-requires : goal.put_verdict-requires
 put_verdict-requires g c = (c.requires.closed.0, c.requires.closed.1.tells)

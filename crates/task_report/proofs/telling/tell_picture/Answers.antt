@@ -1,8 +1,9 @@
-use Rattle.std.proofs.Common.{◌∙◌, sym}
+use Rattle.std.proofs.Common.{◌∙◌, sym, [], Ok, Err}
 use Rattle.dover_model.specs.Session.{instance_of}
 use Rattle.dover_model.proofs.lists.Tests.{never}
 use Rattle.dover_model.proofs.sessions.SessionParts.{session_jobs}
-use Rattle.trace_words.proofs.report.Answering.{same_run}
+use Rattle.trace_words.proofs.report.Answering.{same_run, whole_put}
+use Rattle.task_report.specs.Pictures.{IsTaskReport}
 use Rattle.task_report.proofs.Told.{drawn_cut, drawn_put, run_of, size_cut, size_put}
 use Rattle.task_report.proofs.telling.tell_picture.Goals as goal
 
@@ -11,7 +12,7 @@ picture-requires-clause-run g c =
     let S = c.requires.run.0 in
     let of = c.requires.run.1 in (
       instance_of S,
-      same_run _ _ _ _ c.deref-then-is_small.ensures.value (run_of S _ _ _ _ of ((c.is_small.ensures (instance_of S)
+      same_run _ _ _ _ c.deref-then-is_small.ensures.value (run_of S _ _ _ of ((c.is_small.ensures (instance_of S)
           (session_jobs of.valid) (sym (c.deref.ensures.value ∙ of.prints)) of.version_is).0 c.if-is_small.true)),
     )
 
@@ -19,27 +20,32 @@ pub returns-in-Ok-clause-tells : goal.returns-in-Ok-clause-tells
 returns-in-Ok-clause-tells g c = λ trace S accepted of.
     let listable = (c.is_small.ensures (instance_of S) (session_jobs of.valid)
     (sym (c.deref.ensures.value ∙ of.prints)) of.version_is).0 c.if-is_small.true in
-    drawn_put c.args.form c.args.tasks.now c.requires.drawn trace S accepted _ _ _ c.args.refused of _ _ listable _
-    (c.in-Ok.ensures.puts _ (c.picture.ensures (instance_of S)
-    (same_run _ _ _ _ c.deref-then-is_small.ensures.value (run_of S _ _ _ _ of listable))))
+    drawn_put c.args.form c.args.tasks.now c.requires.drawn trace S accepted _ _ _ of _ _ listable _
+    (whole_put _ (IsTaskReport c.args.form c.args.tasks.now (instance_of S)) {T = Unit {0}} _ (Ok (record {})) _ _ []
+    c.in-Ok.ensures.puts
+    (c.picture.ensures (instance_of S)
+    (same_run _ _ _ _ c.deref-then-is_small.ensures.value (run_of S _ _ _ of listable))))
 
 pub returns-then-is_small-clause-tells : goal.returns-then-is_small-clause-tells
 returns-then-is_small-clause-tells g c = λ trace S accepted of.
     let listable = (c.is_small.ensures (instance_of S) (session_jobs of.valid)
     (sym (c.deref.ensures.value ∙ of.prints)) of.version_is).0 c.if-is_small.true in
-    drawn_cut c.args.form c.args.tasks.now c.requires.drawn trace S accepted _ _ _ c.args.refused of _ _ listable
-    c.in-Err.stop (c.in-Err.ensures.puts _ (c.picture.ensures (instance_of S)
-    (same_run _ _ _ _ c.deref-then-is_small.ensures.value (run_of S _ _ _ _ of listable))))
+    drawn_cut c.args.form c.args.tasks.now c.requires.drawn trace S accepted _ _ _ of _ _ listable
+    c.in-Err.stop
+    (whole_put _ (IsTaskReport c.args.form c.args.tasks.now (instance_of S)) {T = Unit {0}} _ (Err c.in-Err.stop) _ _ []
+    c.in-Err.ensures.puts
+    (c.picture.ensures (instance_of S)
+    (same_run _ _ _ _ c.deref-then-is_small.ensures.value (run_of S _ _ _ of listable))))
 
 pub returns-in-Ok-put_size-clause-tells : goal.returns-in-Ok-put_size-clause-tells
 returns-in-Ok-put_size-clause-tells g c = λ trace S accepted of.
-    size_put c.args.form c.args.tasks.now c.requires.drawn trace S accepted _ _ _ c.args.refused of _ _
+    size_put c.args.form c.args.tasks.now c.requires.drawn trace S accepted _ _ _ of _ _
     (λ listable. never (sym c.if-is_small.false ∙ (c.is_small.ensures (instance_of S) (session_jobs of.valid)
     (sym (c.deref.ensures.value ∙ of.prints)) of.version_is).1 listable)) _ c.in-Ok-put_size.ensures.puts
 
 pub returns-clause-tells : goal.returns-clause-tells
 returns-clause-tells g c = λ trace S accepted of.
-    size_cut c.args.form c.args.tasks.now c.requires.drawn trace S accepted _ _ _ c.args.refused of _ _
+    size_cut c.args.form c.args.tasks.now c.requires.drawn trace S accepted _ _ _ of _ _
     (λ listable. never (sym c.if-is_small.false ∙ (c.is_small.ensures (instance_of S) (session_jobs of.valid)
     (sym (c.deref.ensures.value ∙ of.prints)) of.version_is).1 listable)) c.in-Err-put_size.stop
     c.in-Err-put_size.ensures.puts

@@ -40,10 +40,11 @@ job_by runs p clock e = record {
 }
 
 -- so the job of a number is read where the code's view of the roll and of the job has it
-read_by : (k : Kept) (p : Roll) (room clock n : ℕ) (e : ListedJob) (runs : Bool) (t : Task)
-    → record { roll = p; room = room } ≡ k → slice_get p.jobs n ≡ Some e → is_turn p.turn e.task.number ≡ runs
+read_by : (k : Kept) (p : Roll) (room more clock n : ℕ) (e : ListedJob) (runs : Bool) (t : Task)
+    → record { roll = p; room = room; finish_room = more } ≡ k → slice_get p.jobs n ≡ Some e
+    → is_turn p.turn e.task.number ≡ runs
     → t ≡ job_by runs p clock e → Some t ≡ option_map (job_at k.roll clock) (slice_get k.roll.jobs n)
-read_by k p room clock n e runs t viewed found turn read =
+read_by k p room more clock n e runs t viewed found turn read =
     ap Some (read ∙ ap (λ b. job_by b p clock e) (sym turn))
     ∙ sym (ap (option_map (job_at p clock)) found)
     ∙ ap (λ (l : Kept). option_map (job_at l.roll clock) (slice_get l.roll.jobs n)) viewed
@@ -56,10 +57,11 @@ returns-then-eq-clause-is c =
     let found = slice_get_read c.deref.result.now _ c.args.number c.in_ok-listed.listed.now refl it.3.0 it.1 in
     read_by c.args.self.now (record {
       jobs = c.self.inside.jobs.items;
+      finishes = c.self.inside.finishes.items;
       takes = c.self.inside.takes;
       turn = c.self.inside.turn;
       since = c.self.inside.since;
-    }) _ c.args.clock c.args.number e true _ c.self.view_is
+    }) _ _ c.args.clock c.args.number e true _ c.self.view_is
     (ap (λ l. slice_get l c.args.number) (sym c.deref.ensures.value) ∙ found ∙ ap Some (sym c.listed.view_is))
     (ap (λ (t : Task). is_turn c.self.inside.turn t.number) (sym c.task-task.ensures)
     ∙ sym (turn_is c.self.inside.turn c.task-task.result.number) ∙ sym c.eq.ensures ∙ c.if-eq.true)
@@ -88,10 +90,11 @@ returns-clause-is c =
     ] in
     read_by c.args.self.now (record {
       jobs = c.self.inside.jobs.items;
+      finishes = c.self.inside.finishes.items;
       takes = c.self.inside.takes;
       turn = c.self.inside.turn;
       since = c.self.inside.since;
-    }) _ c.args.clock c.args.number e false _ c.self.view_is
+    }) _ _ c.args.clock c.args.number e false _ c.self.view_is
     (ap (λ l. slice_get l c.args.number) (sym c.deref.ensures.value) ∙ found ∙ ap Some (sym c.listed.view_is))
     (ap (λ (t : Task). is_turn c.self.inside.turn t.number) (sym c.task-task.ensures)
     ∙ sym (turn_is c.self.inside.turn c.task-task.result.number) ∙ sym c.eq.ensures ∙ c.if-eq.false)

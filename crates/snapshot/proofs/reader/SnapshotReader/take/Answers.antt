@@ -13,13 +13,14 @@ pub returns-clause-gives : goal.returns-clause-gives
 returns-clause-gives c = λ ls it.
     let ready : IsReady (Some c.in-Some.resuming) ls =
     subst (λ o. IsReady o ls) (sym c.self.view_is ∙ c.in-Some.is) it in
+    let (h, items, tasks, whole, head, resumes) = ready in
     subst (λ (p : ReadyServer × roster.Kept × Kept × ℕ). Gives p.0 p.1 p.2 p.3 ls)
     (sym (c.into_parts.ensures
     ∙ ap (λ (r : Resuming). let p : ReadyServer × roster.Kept × Kept × ℕ =
     (r.server, r.roster, r.intake, r.head.mark) in p) c.in-Some.resuming-is))
     (record {
-      is = is_snapshot ready.0 ready.1 ls ready.2;
-      each = λ F may text. resumes_feed ready.0 ready.1 ls ready.2 F may text c.in-Some.resuming.server
+      is = is_snapshot h items tasks ls whole;
+      each = λ F may text. resumes_feed h items tasks ls whole F may text c.in-Some.resuming.server
           c.in-Some.resuming.roster c.in-Some.resuming.intake c.in-Some.resuming.head.mark
-          (ap (λ (x : Head). x.mark) ready.3) ready.4;
+          (ap (λ (x : Head). x.mark) head) resumes;
     })

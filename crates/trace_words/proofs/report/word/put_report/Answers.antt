@@ -1,9 +1,11 @@
-use Rattle.trace_words.proofs.report.Answering.{same_run}
+use Rattle.trace_words.specs.report.Talk.{IsReport}
+use Rattle.trace_words.specs.declared.report.form.Form.TheVariants.{Text}
+use Rattle.trace_words.proofs.report.Answering.{same_run, whole_put}
 use Rattle.trace_words.proofs.report.word.put_report.Goals as goal
 
 pub returns-in-Text-clause-puts : goal.returns-in-Text-clause-puts
 returns-in-Text-clause-puts g c = λ J is same. rw (c.in-Text.is, c.requires.empty)
-    (c.put_whole.ensures.puts _ (c.text_of.ensures J is same))
+    (whole_put _ (IsReport Text J) _ _ _ _ _ c.put_whole.ensures.puts (c.text_of.ensures J is same))
 
 pub put_table-requires-clause-run : goal.put_table-requires-clause-run
 put_table-requires-clause-run g c = (c.args.ratio, c.requires.run)
@@ -16,4 +18,5 @@ view_of-requires-clause-run g c = (c.requires.run.0, same_run _ _ _ _ c.deref.en
 
 pub returns-in_default-clause-puts : goal.returns-in_default-clause-puts
 returns-in_default-clause-puts g c = λ J is same. rw c.requires.empty
-    (c.put_whole-in_default.ensures.puts _ (c.view_of.ensures J (same_run _ _ _ _ c.deref.ensures.value is) same))
+    (whole_put _ (IsReport c.args.form J) _ _ _ _ _ c.put_whole-in_default.ensures.puts
+    (c.view_of.ensures J (same_run _ _ _ _ c.deref.ensures.value is) same))

@@ -1,10 +1,11 @@
+use Rattle.trace_words.proofs.report.Answering.{all_ok}
 use Rattle.trace_words.proofs.report.word.view_of.Goals as goal
 
 pub chrome-requires : goal.chrome-requires
 chrome-requires c = c.requires.run
 
 pub returns-in-Chrome : goal.returns-in-Chrome
-returns-in-Chrome c J is under = rw c.in-Chrome.is (c.chrome.ensures J is)
+returns-in-Chrome c J is under = rw c.in-Chrome.is (all_ok _)
 
 pub why-requires : goal.why-requires
 why-requires c = c.requires.run
@@ -22,4 +23,4 @@ pub picture-requires : goal.picture-requires
 picture-requires c = c.requires.run
 
 pub returns-in-Svg : goal.returns-in-Svg
-returns-in-Svg c J is under = rw c.in-Svg.is (c.picture.ensures J is)
+returns-in-Svg c J is under = rw c.in-Svg.is (all_ok _)

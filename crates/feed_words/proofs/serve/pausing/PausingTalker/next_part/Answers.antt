@@ -4,7 +4,7 @@ use Rattle.event_feed.specs.Answers.{admitted_in}
 use Rattle.event_feed.specs.DueLines.{out_text, HasNumerals}
 use Rattle.ready_server.specs.Roster.{IsRollOf}
 use Rattle.feed_words.specs.serve.Listing.{steps_in}
-use Rattle.feed_words.proofs.serve.Listing.{few_listed, room_listed, one_listed}
+use Rattle.feed_words.proofs.serve.Listing.{few_listed, room_listed, finish_listed, one_listed}
 use Rattle.feed_words.proofs.serve.pausing.PausingTalker.next_part.Goals as goal
 
 pub next_out-requires : goal.next_out-requires
@@ -26,7 +26,17 @@ read_into-requires-clause-room g c n job on is =
     let goes =
     sym ((rw c.lane.ensures at c.goes_on-goes_on.ensures) (lines_of (a.feed ++ x)) given.0 given.2.lane) ∙ on in
     room_listed c.args.self.now.roster (a.feed ++ x) goes at.given at.giving.left at.due (at.lists goes)
-    (at.room _ _ given.1) n job given.0 (given.1 ∙ ap (λ o. out_text o ∷ given.0) is) (subst HasNumerals is given.3)
+    (at.room _ _ given.1).0 n job given.0 (given.1 ∙ ap (λ o. out_text o ∷ given.0) is) (subst HasNumerals is given.3)
+
+pub read_into-requires-clause-finish_room : goal.read_into-requires-clause-finish_room
+read_into-requires-clause-finish_room g c at_tick n on is some =
+    let (a, x, rest, at) = c.requires in
+    let given = c.in-Some.ensures.gives (a.feed ++ x) at.giving.left at.giving.stands in
+    let goes =
+    sym ((rw c.lane.ensures at c.goes_on-goes_on.ensures) (lines_of (a.feed ++ x)) given.0 given.2.lane) ∙ on in
+    finish_listed c.args.self.now.roster (a.feed ++ x) goes at.given at.giving.left at.due (at.lists goes)
+    (at.room _ _ given.1).1 at_tick n given.0 (given.1 ∙ ap (λ o. out_text o ∷ given.0) is)
+    (subst HasNumerals is given.3) some
 
 pub write_next-requires : goal.write_next-requires
 write_next-requires g c =
@@ -49,8 +59,12 @@ returns-in-Some g c = record {
           given = at.given ++ out_text c.in-Some.out ∷ [];
           due = at.due ∙ ap (λ ls. at.given ++ ls) given.1
               ∙ sym (append_assoc at.given (out_text c.in-Some.out ∷ []) given.0);
-          room = λ line more is. subst (λ m. admitted_in (account (a.feed ++ x)) ≤ m) (sym c.read_into.ensures.room)
-              (at.room _ _ given.1);
+          room = λ line more is. (
+            subst (λ m. admitted_in (account (a.feed ++ x)) ≤ m) (sym c.read_into.ensures.room.0)
+                (at.room _ _ given.1).0,
+            subst (λ m. admitted_in (account (a.feed ++ x)) ≤ m) (sym c.read_into.ensures.room.1)
+                (at.room _ _ given.1).1,
+          );
           lists = λ goes. one_listed c.args.self.now.roster (a.feed ++ x) goes at.given at.giving.left at.due
               (at.lists goes) c.read_into.new.roster c.in-Some.out given.0 given.1 given.3
               (c.read_into.ensures.roll

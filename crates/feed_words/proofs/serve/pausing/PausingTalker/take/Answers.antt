@@ -17,13 +17,22 @@ returns-in-Ok-make_room g c = record {
       (c.in-Ok.ensures.takes (a.feed ++ x) rests goes) c.args.self.now.roster c.make_room.new.self
       (c.in-Ok.ensures.paid (a.feed ++ x) a.start _ rests at.ready.paid)
       (c.laws.ensures.few c.args.self.now.serving.feed.lane (lines_of (a.feed ++ x)) [] a.start _ rests.lane.stands
-      at.ready.paid) (at.lists goes) c.in-Ok-make_room.ensures.same (omega (
-        arith,
-        c.in-Ok-make_room.ensures.room,
-        (rw c.lane.ensures at c.most_jobs.ensures.many)
-            (lines_of ((a.feed ++ x) ++ take c.in-Ok.count c.args.piece.now)) _
-            (c.in-Ok.ensures.takes (a.feed ++ x) rests goes).2.2.lane,
-      ));
+      at.ready.paid) (at.lists goes) c.in-Ok-make_room.ensures.same (
+        omega (
+          arith,
+          c.in-Ok-make_room.ensures.room.0,
+          (rw c.lane.ensures at c.most_jobs.ensures.many)
+              (lines_of ((a.feed ++ x) ++ take c.in-Ok.count c.args.piece.now)) _
+              (c.in-Ok.ensures.takes (a.feed ++ x) rests goes).2.2.lane,
+        ),
+        omega (
+          arith,
+          c.in-Ok-make_room.ensures.room.1,
+          (rw c.lane.ensures at c.most_jobs.ensures.many)
+              (lines_of ((a.feed ++ x) ++ take c.in-Ok.count c.args.piece.now)) _
+              (c.in-Ok.ensures.takes (a.feed ++ x) rests goes).2.2.lane,
+        ),
+      );
 }
 
 pub returns-in-Err : goal.returns-in-Err
@@ -46,5 +55,6 @@ returns-in-Err-make_room g c = record {
       at.ready.paid) ((rw c.lane.ensures at c.most_jobs.ensures.declared)
       (lines_of ((a.feed ++ x) ++ take c.in-Ok.count c.args.piece.now)) _
       (c.in-Ok.ensures.takes (a.feed ++ x) rests goes).2.2.lane
-      (wanted c.most_jobs.result c.args.self.now.roster.room (λ few. never (c.in-Err-make_room.ensures.enough few))));
+      (wanted c.most_jobs.result c.args.self.now.roster.room c.args.self.now.roster.finish_room
+      (λ few more. never (c.in-Err-make_room.ensures.enough few more))));
 }

@@ -22,8 +22,7 @@ returns-in-Ok-clause-answers g c = λ text ended closed.
     let are = c.deref.ensures.value ∙ closed.steps in
     let listable = (c.is_small.ensures (instance_of tells.0) (session_jobs tells.7.valid)
     (prints _ _ _ _ _ text tells _ are) (sym tells.3)).0 c.if-is_small.true in
-    reported _ _ _ _ _ text tells c.args.self.form ended _ _ _ c.args.closed.refused
-    (closed.refused tells.0 tells.1) listable _ (c.in-Ok.ensures.puts (instance_of tells.0)
+    reported _ _ _ _ _ text tells c.args.self.form ended _ _ _ listable _ (c.in-Ok.ensures.puts (instance_of tells.0)
     (run_of _ _ _ _ _ text tells _ closed.steps listable) (sym tells.3))
 
 pub returns-in-Err-clause-answers : goal.returns-in-Err-clause-answers
@@ -32,8 +31,8 @@ returns-in-Err-clause-answers g c = λ text ended closed.
     let are = c.deref.ensures.value ∙ closed.steps in
     let listable = (c.is_small.ensures (instance_of tells.0) (session_jobs tells.7.valid)
     (prints _ _ _ _ _ text tells _ are) (sym tells.3)).0 c.if-is_small.true in
-    unreported _ _ _ _ _ text tells c.args.self.form ended _ _ c.put_report.new.out c.args.closed.refused
-    (closed.refused tells.0 tells.1) listable c.in-Err.stop (c.in-Err.ensures.puts (instance_of tells.0)
+    unreported _ _ _ _ _ text tells c.args.self.form ended _ _ c.put_report.new.out listable c.in-Err.stop
+    (c.in-Err.ensures.puts (instance_of tells.0)
     (run_of _ _ _ _ _ text tells _ closed.steps listable) (sym tells.3))
 
 pub returns-in-Ok-put_size-clause-answers : goal.returns-in-Ok-put_size-clause-answers

@@ -12,7 +12,7 @@ put_stopped-requires g c = c.in_default.not-Ended
 
 pub returns-in-Ok-clause-answers : goal.returns-in-Ok-clause-answers
 returns-in-Ok-clause-answers g c = λ a x at over. drawn_so c.args.self.form a.form at.asks x c.close-lines.result
-    (c.close-lines.ensures x at.reads) c.args._ended c.in-Ended.is _ _ _ c.in-Ok.ensures.puts
+    (c.close-lines.ensures x at.reads) c.args._ended c.in-Ended.is _ _ _ _ c.in-Ok.ensures.puts
 
 pub returns-in-Err-clause-answers : goal.returns-in-Err-clause-answers
 returns-in-Err-clause-answers g c = λ a x at over. not_drawn_so c.args.self.form a.form at.asks x c.close-lines.result
