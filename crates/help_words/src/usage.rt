@@ -44,7 +44,7 @@ pub const USAGE: &str = r"usage: dover WORD.. [< INPUT]
   bait P Q N B C         the same by the factor B/C, for k = P/Q
   duel P Q A B           the feed of jobs on which no on-line scheduler gets A/B of the best schedule, for k = P/Q
   duel P Q A B L         the same, of the first L of them
-example:  printf 'k 1 1\njob 0 2 2 2\nend\n' | dover serve
+example:  printf 'k 1 1 4 2 1\njob 0 2 2 2\nend\n' | dover serve
 status:   0 done, 1 no, 2 refused, 3 read failed, 4 write failed, 5 no memory, 6 wrong words, 7 not begun
 version:  dover version says which one this is
 more:     dover WORD --help, man dover, and docs/MANUAL.md
