@@ -3,6 +3,7 @@ use Rattle.std.proofs.Common.{◌≡◌, ◌≤◌, ℕ, List, ◌++◌, Bool, t
 use Rattle.std.proofs.Common.{Option, Some, None, take-append-drop}
 use Rattle.dover_model.specs.Common.{Instance, IsValid, jobs_under, JobFacts, instance_of, IsDeclarable, verdict, due}
 use Rattle.dover_model.specs.Common.{account, is_ended, is_open, Fraction, IsRatio, most_jobs}
+use Rattle.dover_model.specs.Common.{Standing, Open, Ended, Faulty, Session, IsValidSession}
 use Rattle.dover_model.specs.Session.{takes_factors}
 use Rattle.dover_model.specs.declared.factors.Factor.{Factor}
 use Rattle.dover_model.specs.declared.events.Version.{Version}
@@ -15,6 +16,7 @@ use Rattle.dover_model.proofs.finishes.Meeting.{on_line_finishes}
 use Rattle.dover_model.proofs.runs.Runs.{none_lost, all_value}
 use Rattle.dover_model.proofs.lists.Tests.{never}
 use Rattle.dover_model.proofs.valid.Valid.{valid_front}
+use Rattle.dialogue.specs.Reading.{SaysAt}
 use Rattle.dover_port.specs.Moves.{Move, ins, outs, has_ended}
 use Rattle.dover_port.specs.declared.status.Status.TheVariants.{Done, Refused}
 use Rattle.feed_words.specs.serve.Talk.{PausesAt, IsServedAs}
@@ -124,14 +126,25 @@ reported form ended text moves (inl refused) = absurd (let e : Done ≡ Refused 
 reported form ended text moves (inr said) =
     accepted (behind (ins moves)) (said.1.session, said.1.valid, said.1.accepted)
 
+-- where something is said of a feed's jobs, it is of those of a valid session
+asked_of : (says : asked.Says) (lines : ℕ) (s : Standing) (o : Option Session) (text : List ℕ)
+    → SaysAt lines s (asked.SaysOf says o) Done text → (S : Session) × (o ≡ Some S) × IsValidSession S
+asked_of says lines Open o text it = absurd (let e : Done ≡ Refused = it.0 in cc)
+asked_of says lines (Faulty line cause) o text it = absurd (let e : Done ≡ Refused = it.0 in cc)
+asked_of says lines Ended None text it = absurd it
+asked_of says lines Ended (Some S) text it = (S, refl, it.0)
+
 pub ran : (says : asked.Says) (ended : Bool) (text : List ℕ) (moves : List Move)
     → (asked.ask_talk says).answer (ins moves) ended Done text → IsRun moves
-ran says ended text moves (inl refused) = absurd (let e : Done ≡ Refused = refused.0 in cc)
-ran says ended text moves (inr said) = record {
-  session = said.session;
-  named = said.session_is;
-  promises = promises_of (instance_of said.session) (session_jobs said.valid);
-}
+ran says ended text moves (inl refused) = absurd (let e : Done ≡ Refused = refused.1.0 in cc)
+ran says ended text moves (inr said) =
+    let it = asked_of says (account (ins moves)).lines (account (ins moves)).standing (account (ins moves)).session text
+    said.1 in
+    record {
+      session = it.0;
+      named = it.1;
+      promises = promises_of (instance_of it.0) (session_jobs it.2);
+    }
 
 pub generated : (k : Fraction) (seed count : ℕ) → IsRatio k → count ≤ most_jobs Two
     → KeepsPromises (trial_instance k seed count)
