@@ -136,7 +136,7 @@ asked_of says lines Ended (Some S) text it = (S, refl, it.0)
 
 pub ran : (says : asked.Says) (ended : Bool) (text : List ℕ) (moves : List Move)
     → (asked.ask_talk says).answer (ins moves) ended Done text → IsRun moves
-ran says ended text moves (inl refused) = absurd (let e : Done ≡ Refused = refused.1.0 in cc)
+ran says ended text moves (inl refused) = absurd (let e : Done ≡ Refused = refused.1 in cc)
 ran says ended text moves (inr said) =
     let it = asked_of says (account (ins moves)).lines (account (ins moves)).standing (account (ins moves)).session text
     said.1 in
