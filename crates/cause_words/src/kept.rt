@@ -4,6 +4,9 @@ use std::alloc::{AllocError, Global};
 /// A line may have 128 bytes: so much of one tells that it has more.
 const LINE_BYTES: usize = 160;
 
+/// Lines behind so many aren't told: to count the lines of a long input would take longer than to read them.
+const MOST_LINES: u64 = 10_000;
+
 /// The bytes of the last read, behind those of the line that the reads before it had left unended.
 #[derive(Drop)]
 pub(crate) struct Kept {
@@ -11,7 +14,7 @@ pub(crate) struct Kept {
     rest: Vec<u8>,
     /// The number of the first line of the text, from 1 on.
     first: u64,
-    /// There was no memory for a piece, so nothing is known of lines any more.
+    /// There was no memory for a piece, or there were too many lines, so nothing is known of lines any more.
     lost: bool,
 }
 
@@ -42,7 +45,9 @@ impl Kept {
 
     /// Keeps what one more read gave.
     pub(crate) fn add(&mut self, piece: &[u8]) {
-        if self.keep(piece).is_err() {
+        if self.first > MOST_LINES {
+            self.lost = true;
+        } else if self.keep(piece).is_err() {
             self.lost = true;
         }
     }
