@@ -4,8 +4,6 @@ pub mod Readiness
 pub mod Needing
 pub mod Meeting
 pub mod Further
-pub mod FinishOrders
-pub mod AheadFinishes
 pub mod OverPaths
 pub mod OverFor
 pub mod RightFinishes

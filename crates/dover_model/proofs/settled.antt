@@ -5,7 +5,6 @@ pub mod Barriers
 pub mod Prefixes
 pub mod Releasing
 pub mod Onlines
-pub mod SilentTicks
 pub mod LastSteps
 pub mod Paths
 pub mod Leading

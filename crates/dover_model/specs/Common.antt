@@ -21,7 +21,7 @@ pub use Rattle.dover_model.specs.Limits.{most_ready, most_total, most_value, mos
 pub use Rattle.dover_model.specs.JobFacts.{is_job, IsJob, job_numbers, job_of_numbers, JobFacts}
 pub use Rattle.dover_model.specs.Fraction.{factor_numbers, Fraction, fraction, is_ratio, is_some_factor, IsRatio}
 pub use Rattle.dover_model.specs.Fraction.{ratio_with, with_factor}
-pub use Rattle.dover_model.specs.Finishes.{AreDueAlike, Finish, goes_on, has_come_to, is_due, is_finish_of, need}
+pub use Rattle.dover_model.specs.Finishes.{Finish, goes_on, has_come_to, is_due, is_finish_of, need}
 pub use Rattle.dover_model.specs.Instance.{bare, Declaration, declared_by, finishing, having, Instance, is_valid}
 pub use Rattle.dover_model.specs.Instance.{is_within_ratio, IsInOrder, IsListable, IsValid, jobs_under, last_deadline}
 pub use Rattle.dover_model.specs.Instance.{Rules}
@@ -46,7 +46,7 @@ pub use Rattle.dover_model.specs.Run.{completed_value, enough, event_of, is_end,
 pub use Rattle.dover_model.specs.Run.{printed_of, ran, run, Step, tick_of, value_of_end}
 pub use Rattle.dover_model.specs.Sound.{Each, EachTwo, FitsRole, HaveTheSame, IsMember, IsNumberedFrom, IsSound}
 pub use Rattle.dover_model.specs.Sound.{jobs_of, Keeps, NoneRuns}
-pub use Rattle.dover_model.specs.Jumps.{AreAhead, AreAheadOfRunning, later_by, NothingDue, silent_ticks, ticked_by}
+pub use Rattle.dover_model.specs.Jumps.{later_by, NothingDue, ticked_by}
 pub use Rattle.dover_model.specs.Settled.{AllComeFrom, AreOverFor, AreYetToCome, finish_now, last_of, RunsAtMark}
 pub use Rattle.dover_model.specs.Settled.{settled, settled_from, settled_state, settled_steps, tick_of_event}
 pub use Rattle.dover_model.specs.Settled.{waits_for_mark}
@@ -107,7 +107,7 @@ pub use Rattle.dover_model.specs.Books.{completed_in, in_rows, is_busy_tick, IsD
 pub use Rattle.dover_model.specs.Books.{IsLeastDense, IsPaid, IsPaidBy, IsRow, Job, job_value, Row, row_sum, TakenIn}
 pub use Rattle.dover_model.specs.Reports.{is_preemption, is_take, report, summary, summary_lines, table}
 pub use Rattle.dover_model.specs.Pieces.{edf, edf_from, given, last_release, spread, stretches}
-pub use Rattle.dover_model.specs.Windows.{is_inside, IsOverfull, work_inside}
+pub use Rattle.dover_model.specs.Windows.{crosses, crossing_beside, is_inside, IsOverfull, work_inside, worth_beside}
 pub use Rattle.dover_model.specs.Generator.{generated_jobs, generated_jobs_from, high_bits, job_of_draws, most_density}
 pub use Rattle.dover_model.specs.Generator.{next_state}
 pub use Rattle.dover_model.specs.Bait.{bait_jobs, bait_plan, bait_tick, bait_value, chain, chain_from, chain_jobs}

@@ -1,5 +1,5 @@
 -- Early finishes: a job that declares more work than it needs is done once it has had what it needs.
-use Rattle.std.specs.Prelude.{◌≡◌, ℕ, List, Bool, not, ◌&&◌, ◌==◌, nat_lt, nat_le, if◌then◌else◌, [], ◌∷◌, false}
+use Rattle.std.specs.Prelude.{ℕ, List, Bool, not, ◌&&◌, ◌==◌, nat_lt, nat_le, if◌then◌else◌, [], ◌∷◌, false}
 use Rattle.std.specs.Prelude.{Option, Some, None}
 use Rattle.std.specs.List.{list_any}
 use Rattle.dover_model.specs.declared.events.Task.{Task}
@@ -22,10 +22,6 @@ is_finish_of (Some t) f = has_come_to t f
 -- the job has come to one of these finishes
 abbrev pub is_due : List Finish → Task → Bool
 is_due finishes t = list_any (has_come_to t) finishes
-
--- a job has come to a finish of one list just where it has come to one of the other
-abbrev pub AreDueAlike : List Finish → List Finish → Type 0
-AreDueAlike fs gs = (t : Task) → is_due fs t ≡ is_due gs t
 
 -- the job has work left, and has come to no finish
 abbrev pub goes_on : List Finish → Task → Bool

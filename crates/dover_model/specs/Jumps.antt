@@ -1,11 +1,8 @@
 -- Many silent ticks at once.
-use Rattle.std.specs.Prelude.{◌≡◌, ℕ, zero, suc, ◌+◌, ◌≤◌, List, [], ◌∷◌, map, true, if◌then◌else◌, Some}
+use Rattle.std.specs.Prelude.{◌≡◌, ℕ, ◌+◌, ◌≤◌, map, true, if◌then◌else◌}
 use Rattle.dover_model.specs.declared.events.Role.TheVariants.{Coming, Fresh, Waiting, Running}
 use Rattle.dover_model.specs.declared.events.Task.{Task}
-use Rattle.dover_model.specs.Finishes.{Finish}
-use Rattle.dover_model.specs.State.{State, is_ready_behind, is_running, running, left, latest_start}
-use Rattle.dover_model.specs.Step.{Ticks, after}
-use Rattle.dover_model.specs.Run.{Step}
+use Rattle.dover_model.specs.State.{State, is_ready_behind, is_running, left, latest_start}
 use Rattle.dover_model.specs.Sound.{Each, NoneRuns}
 
 -- the running job has n ticks more
@@ -21,19 +18,6 @@ ticked_by n t = record {
 -- the state with the clock n further, and n ticks more for the running job
 abbrev pub later_by : ℕ → State → State
 later_by n s = record s { clock = s.clock + n; tasks = map (ticked_by n) s.tasks }
-
--- so many silent ticks, from a state on
-abbrev pub silent_ticks : ℕ → State → List Step
-silent_ticks zero s = []
-silent_ticks (suc n) s = record { before = s; move = Ticks } ∷ silent_ticks n (after s Ticks)
-
--- each of these finishes is so many ticks ahead of its job, or more
-abbrev pub AreAhead : ℕ → List Finish → State → Type 0
-AreAhead n fs s = Each (λ f. Each (λ t. t.number ≡ f.number → t.had + n ≤ f.had) s.tasks) fs
-
--- the same of the finishes of the job that runs, if one does
-abbrev pub AreAheadOfRunning : ℕ → List Finish → State → Type 0
-AreAheadOfRunning n fs s = Each (λ f. (r : Task) → running s ≡ Some r → r.number ≡ f.number → r.had + n ≤ f.had) fs
 
 -- nothing is due before n ticks have passed: no decision, completion, latest start or release
 pub record NothingDue (n : ℕ) (s : State) : Type 0 where

@@ -1,11 +1,11 @@
 -- Who has the ticks of a run on several processors.
-use Rattle.std.specs.Prelude.{◌≡◌, ℕ, ◌≤◌, List, ◌==◌, ◌&&◌, nat_le, nat_lt, Bool, false}
+use Rattle.std.specs.Prelude.{◌≡◌, ℕ, ◌≤◌, List, ◌==◌, Bool, false}
 use Rattle.std.specs.List.{count_by}
 use Rattle.dover_model.specs.declared.events.Role.TheVariants.{Running}
 use Rattle.dover_model.specs.Instance.{Instance}
 use Rattle.dover_model.specs.Sound.{IsMember}
 use Rattle.dover_model.specs.Step as single
-use Rattle.dover_model.specs.JobFacts.{JobFacts}
+use Rattle.dover_model.specs.Windows.{crosses}
 use Rattle.dover_model.specs.Underload as underload
 use Rattle.dover_model.specs.Processor as processor
 use Rattle.many_processors.specs.State.{Placed, State}
@@ -42,10 +42,6 @@ abbrev pub is_complete : Move → Bool
 is_complete (Prints q e) = processor.is_complete (single.Prints e)
 is_complete (Waits n) = false
 is_complete Ticks = false
-
--- the tick is in the job's window
-abbrev pub crosses : ℕ → JobFacts → Bool
-crosses t j = nat_le j.release t && nat_lt t j.deadline
 
 -- no tick is in the windows of more jobs than so many
 abbrev pub FewAtOnce : ℕ → Instance → Type 0

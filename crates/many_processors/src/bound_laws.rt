@@ -10,7 +10,8 @@ ghost use Rattle.many_processors.specs.Schedules.{IsFor, worth};
 ghost use Rattle.many_processors.specs.MoreProcessors.{IsWithinTimes};
 ghost use Rattle.many_processors.specs.Lanes.{LaneSchedule, worth_of_lanes};
 ghost use Rattle.many_processors.specs.Observed.{observed};
-ghost use Rattle.many_processors.specs.Sure.{worth_beside, IsCompleted};
+ghost use Rattle.many_processors.specs.Sure.{IsCompleted};
+ghost use Rattle.dover_model.specs.Windows.{worth_beside};
 
 /// What holds of the bound on several processors. Each clause is a law, whose remark stands above. It does nothing.
 pub fn laws_of_bounds()

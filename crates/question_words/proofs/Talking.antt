@@ -1,6 +1,7 @@
 -- What a word says that answers on the jobs of a feed: its laws.
 use Rattle.std.proofs.Common.{◌≡◌, ◌∙◌, ℕ, List, ◌∷◌, [], refl, sym, subst, true, false, inl, inr, arith, le-ltb}
-use Rattle.dover_model.specs.Common.{Account, is_too_long, next_line}
+use Rattle.dover_model.specs.Common.{Account, next_line}
+use Rattle.dover_model.proofs.sessions.Accounts.{too_long_same}
 use Rattle.dover_port.specs.declared.status.Status.{Status}
 use Rattle.dialogue.specs.Taking.{IsGood, IsOrderly}
 use Rattle.event_feed.specs.Listing.{wants_more}
@@ -9,11 +10,6 @@ use Rattle.event_feed.proofs.GoingOn.{closed_stays, good_line}
 use Rattle.event_feed.proofs.Listing.{open_by_test}
 use Rattle.event_feed.proofs.Offering.{few_wanted, none_more, wanted_few}
 use Rattle.question_words.specs.Talk.{Answers, Says, ask_reading}
-
--- lines that are too long count as one and the same
-pub too_long_same : (a : Account) (l m : List ℕ) → is_too_long l ≡ true → is_too_long m ≡ true
-    → next_line a l ≡ next_line a m
-too_long_same a l m long_l long_m = rw (long_l, long_m) refl
 
 -- a line behind those that end the feed changes no answer
 pub answer_stays : (says : Says) (a : Account) (l : List ℕ) (status : Status) (text : List ℕ) → wants_more a ≡ false

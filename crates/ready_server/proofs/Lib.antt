@@ -13,4 +13,3 @@ pub mod Present
 pub mod RollSettled
 pub mod RollFinishes
 pub mod Rostered
-pub mod SameFinishes

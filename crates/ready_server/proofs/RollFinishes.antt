@@ -26,7 +26,7 @@ use Rattle.ready_server.specs.Roster.{Roll, ListedJob, stopped, with_stop, halte
 use Rattle.ready_server.specs.Roster.{released, with_event, empty_roll, roll_of}
 use Rattle.ready_server.specs.declared.roster.ListedFinish.{ListedFinish}
 use Rattle.ready_server.proofs.Rolls.{Lists, Follows, had_ran, job_is}
-use Rattle.ready_server.proofs.RollRuns.{roll_after, deed_next, opening_follows}
+use Rattle.ready_server.proofs.RollRuns.{roll_after, deed_next}
 use Rattle.ready_server.proofs.RollSettled.{stop_count, halt_count, tasks_count}
 
 -- the early finishes among items, each with how many jobs are in front of it, where so many are in front of all

@@ -5,7 +5,7 @@ ghost use Rattle.dover_model.specs.declared.events.Event.{Event};
 ghost use Rattle.dover_model.specs.declared.events.Event.TheVariants.{Complete};
 ghost use Rattle.dover_model.specs.Common.{Finish, Instance, IsValid, with_jobs, with_finishes, finishing, most_ready};
 ghost use Rattle.dover_model.specs.Common.{most_total, last_tick, instead_with, runner_of, EarlyFinish, finish_at};
-ghost use Rattle.dover_model.specs.Common.{is_full, settled, is_end, CostsAtMost, HaveTheSame, Prints, Begins};
+ghost use Rattle.dover_model.specs.Common.{is_full, settled, is_end, CostsAtMost, Prints, Begins};
 ghost use Rattle.dover_model.specs.Common.{MayFollow, is_end_given, no_jobs, due_by, Gives};
 ghost use Rattle.dover_model.specs.declared.events.Version.TheVariants.{Three};
 ghost use Rattle.dover_model.specs.declared.horizon.Horizon.{Horizon};
@@ -50,11 +50,6 @@ impl ReadyServer {
         ensures few { (s : ReadyServer) (J : Instance) (to : Horizon) (events : List Event) (start now : ℕ) →
             Serves s J to events → HasPaid s start now → CostsAtMost (length J.jobs) start now }
         ensures place { (s : ReadyServer) → HasPlaceUnlessFull s → length s.ready.ready < most_ready → HasPlace s }
-        ensures same_finishes { (s : ReadyServer) (J : Instance) (fs gs : List Finish) (to : Horizon)
-            (events : List Event) → HaveTheSame fs gs → Serves s (finishing J fs) to events
-            → Serves s (finishing J gs) to events }
-        ensures same_at_rest { (s : ReadyServer) (J : Instance) (fs gs : List Finish) (to : Horizon)
-            → HaveTheSame fs gs → Rests s (finishing J fs) to → Rests s (finishing J gs) to }
     {}
 
     /// No job is admitted yet, there is room for none, and the clock is 0.

@@ -1,5 +1,5 @@
 -- Jobs that no run loses, whatever comes beside them.
-use Rattle.std.specs.Prelude.{◌≡◌, ℕ, ◌+◌, ◌*◌, ◌≤◌, ◌<◌, List, Bool, not, ◌&&◌, ◌==◌, nat_le, nat_lt, get_or}
+use Rattle.std.specs.Prelude.{◌≡◌, ℕ, ◌+◌, ◌*◌, ◌≤◌, ◌<◌, List, Bool, ◌&&◌, ◌==◌, nat_le, nat_lt, get_or}
 use Rattle.std.specs.Prelude.{if◌then◌else◌, length, true, false, [], ◌∷◌, ◌++◌, max, replicate}
 use Rattle.std.specs.Int.{div_ceil}
 use Rattle.std.specs.List.{sum_by, enumerate_from}
@@ -9,24 +9,11 @@ use Rattle.dover_model.specs.Fraction.{Fraction}
 use Rattle.dover_model.specs.JobFacts.{JobFacts}
 use Rattle.dover_model.specs.Instance.{Instance}
 use Rattle.dover_model.specs.Schedules.{numbered}
+use Rattle.dover_model.specs.Windows.{crosses}
 use Rattle.dover_model.specs.Orders.{IsHeavy}
 use Rattle.dover_model.specs.State.{is_privileged}
 use Rattle.dover_model.specs.Sound.{IsMember, Each, EachTwo}
 use Rattle.dover_model.specs.Run.{printed}
-
--- ---- one job of a list
-
--- the job is released by this tick, and due later
-abbrev pub crosses : ℕ → JobFacts → Bool
-crosses t j = nat_le j.release t && nat_lt t j.deadline
-
--- the value of a job of another number that crosses this tick
-abbrev pub crossing_beside : ℕ → ℕ → ℕ × JobFacts → ℕ
-crossing_beside n t (m, i) = if not (m == n) && crosses t i then i.value else 0
-
--- what the other jobs that cross this tick are worth
-abbrev pub worth_beside : Instance → ℕ → ℕ → ℕ
-worth_beside J n t = sum_by (crossing_beside n t) (numbered J)
 
 -- ---- the jobs that can hold the processor together
 

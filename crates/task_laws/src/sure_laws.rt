@@ -2,7 +2,8 @@
 ghost use Rattle.std.specs.Prelude.{◌≡◌, ◌≤◌, ◌<◌, ◌+◌, ◌-◌, ℕ, List, true};
 ghost use Rattle.dover_model.specs.Common.{Instance, IsValid, run, JobFacts, numbered, IsHeavy, Fraction, IsMember};
 ghost use Rattle.dover_model.specs.Common.{Each};
-ghost use Rattle.task_laws.specs.Sure.{worth_beside, IsHeavyAt, NoneDisplaces, IsCompleted, Stream, stream_at};
+ghost use Rattle.task_laws.specs.Sure.{IsHeavyAt, NoneDisplaces, IsCompleted, Stream, stream_at};
+ghost use Rattle.dover_model.specs.Windows.{worth_beside};
 ghost use Rattle.task_laws.specs.Sure.{AreOfStreams, is_spread, most_beside, most_fitting, CanStack, worth_of, IsSure};
 ghost use Rattle.task_laws.specs.Sure.{IsOfStream, FitWindows, NoneMeets};
 ghost use Rattle.dover_model.specs.Orders.{IsByDeadline};

@@ -11,7 +11,7 @@ use Rattle.dover_model.specs.Common.{Instance, IsValid, with_finishes, bare, Sta
 use Rattle.dover_model.specs.Common.{is_over, Move, Prints, Ticks, due_finish, finish_or, step, open_step}
 use Rattle.dover_model.specs.Common.{declared_step, declared_open_step, after, ticked, Step, printed, event_of}
 use Rattle.dover_model.specs.Common.{waits_for_mark, settled_steps, settled_state, settled, finish_now, RunsAtMark}
-use Rattle.dover_model.specs.Common.{AreOverFor, AreYetToCome, AreAhead, open_at, IsBarrier, Begins, IsOpenPath}
+use Rattle.dover_model.specs.Common.{AreOverFor, open_at, IsBarrier, Begins, IsOpenPath}
 use Rattle.dover_model.specs.Common.{HasPrinted, IsMember, Each, Keeps}
 use Rattle.dover_model.proofs.lists.Members.{not_found, map_member, member_behind, some_same, each_cons}
 use Rattle.dover_model.proofs.steps.Roles.{passes, one_number}
@@ -129,7 +129,7 @@ less_before n h s m low t member same =
     let grows : t.had ≤ (it.by t).had = it.had t in omega arith
 
 -- of a member of a mapped list
-map_back : {X Y : Type 0} (f : X → Y) (xs : List X) (y : Y) → IsMember y (map f xs)
+pub map_back : {X Y : Type 0} (f : X → Y) (xs : List X) (y : Y) → IsMember y (map f xs)
     → (x : X) × IsMember x xs × (y ≡ f x)
 map_back f [] y member = absurd member
 map_back f (x ∷ xs) y (inl e) = (x, inl refl, e)
@@ -204,9 +204,9 @@ module _ (J : Instance) (valid : IsValid J) (mark : ℕ) (r : Task) (runs : r.ro
       some_had (y ∷ zs) (after s (open_step J.rules s)) t (open_kept J valid s keeps J.rules)
       (λ e. absurd (let no : y ∷ zs ≡ [] = e in cc)) path.2 member (λ z there. early z (inr there))
 
--- a finish that is ahead of its job isn't due
-ahead_not_due : (fs : List Finish) (s : State) → AreAhead 1 fs s → due_finish fs s ≡ None
-ahead_not_due fs s ahead = by_due (due_finish fs s) refl where
+-- no finish is due whose job has had less
+none_due : (fs : List Finish) (s : State) → Each (λ f. Less f.number f.had s) fs → due_finish fs s ≡ None
+none_due fs s ahead = by_due (due_finish fs s) refl where
   by_due : (o : Option Finish) → due_finish fs s ≡ o → o ≡ None
   by_due None e = refl
   by_due (Some f) e =
@@ -216,7 +216,7 @@ ahead_not_due fs s ahead = by_due (due_finish fs s) refl where
 
 -- a finish of a job that has had less isn't
 not_due : (r : Task) (s : State) → Less r.number r.had s → due_finish (finish_now r ∷ []) s ≡ None
-not_due r s less = ahead_not_due (finish_now r ∷ []) s
+not_due r s less = none_due (finish_now r ∷ []) s
     (each_cons (λ f. Less f.number f.had s) (finish_now r) [] less (λ f member. absurd member))
 
 -- on a path, what is less at its end was less before
@@ -230,20 +230,6 @@ less_path J mark n h (x ∷ xs) s t path low =
       each_cons (λ (y : Step). Less n h y.before) x xs
           (subst (λ (y : Step). Less n h y.before) (sym path.0) here) rest.1,
     )
-
--- finishes that are ahead of their jobs at the barrier are yet to come
-pub ahead_yet : (J : Instance) → IsValid J → (mark : ℕ) (fs : List Finish) → AreAhead 1 fs (settled_state J mark)
-    → AreYetToCome J mark fs
-ahead_yet J valid mark fs ahead = record {
-  before = λ x member. ahead_not_due fs x.before (λ f named. (less_path J mark f.number f.had (settled_steps J mark)
-      (opening J.jobs) there.0 there.1 (subst (Less f.number f.had) is_there (ahead f named))).1 x member);
-  there = ahead_not_due fs (settled_state J mark) ahead;
-} where
-  there : (t : State) × IsOpenPath J.rules mark (opening J.jobs) (settled_steps J mark) t × IsBarrier J.rules mark t
-  there = settled_path J.rules mark (settled_steps J mark) (opening J.jobs) (settled_is_run J mark valid)
-
-  is_there : settled_state J mark ≡ there.0
-  is_there = path_state J.rules mark (settled_steps J mark) (opening J.jobs) there.0 there.1
 
 module _ (J : Instance) (valid : IsValid J) (mark : ℕ) (r : Task) (at : RunsAtMark J mark r) where
   -- the path to the barrier

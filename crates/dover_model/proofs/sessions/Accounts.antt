@@ -601,7 +601,7 @@ unread : (l : List ℕ) → is_too_long l ≡ true → feed_line l ≡ None
 unread l long = ap (λ b. cond b None (line_of_fields (fields_of l))) long
 
 -- lines that are too long count as one and the same
-too_long_same : (a : Account) (l m : List ℕ) → is_too_long l ≡ true → is_too_long m ≡ true
+pub too_long_same : (a : Account) (l m : List ℕ) → is_too_long l ≡ true → is_too_long m ≡ true
     → next_line a l ≡ next_line a m
 too_long_same a l m long_l long_m = ap (account_after a) (unread l long_l ∙ sym (unread m long_m))
 

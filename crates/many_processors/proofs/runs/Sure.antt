@@ -41,8 +41,8 @@ use Rattle.many_processors.specs.Step.{Move, Prints, Waits, Ticks, on, Seen, see
 use Rattle.many_processors.specs.Step.{completion, is_free, is_own_of, placed_after, placed_on, in_role, ticked}
 use Rattle.many_processors.specs.Run.{run, enough}
 use Rattle.many_processors.specs.Sound.{Keeps}
-use Rattle.many_processors.specs.Ticks.{crosses}
-use Rattle.many_processors.specs.Sure.{crossing_beside, worth_beside, IsCompleted}
+use Rattle.dover_model.specs.Windows.{crosses, crossing_beside, worth_beside}
+use Rattle.many_processors.specs.Sure.{IsCompleted}
 use Rattle.many_processors.proofs.bound.Bounding.{excess_sum}
 use Rattle.many_processors.proofs.books.Booked.{own_sum, value_of, number_and_job, seen_value}
 use Rattle.many_processors.proofs.books.TickSteps.{sum_swap, one_number, tick_plain}

@@ -29,7 +29,8 @@ use Rattle.many_processors.specs.Step.{Move, Prints, Waits, Ticks, on, Seen, see
 use Rattle.many_processors.specs.Step.{completion, is_free, placed_after, in_role, ticked, with_tick}
 use Rattle.many_processors.specs.Run.{run, enough, completed_value}
 use Rattle.many_processors.specs.Sound.{Keeps}
-use Rattle.many_processors.specs.Ticks.{crosses, FewAtOnce, takes_or_abandons}
+use Rattle.many_processors.specs.Ticks.{FewAtOnce, takes_or_abandons}
+use Rattle.dover_model.specs.Windows.{crosses}
 use Rattle.many_processors.proofs.books.TickSteps.{serves, running_many}
 use Rattle.many_processors.proofs.steps.Seeing.{each_sees, below_numbers, numbers_below}
 use Rattle.many_processors.proofs.steps.Cases as cases

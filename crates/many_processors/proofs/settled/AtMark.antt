@@ -13,6 +13,7 @@ use Rattle.dover_model.specs.Common.{Rules, having, is_running, is_privileged, t
 use Rattle.dover_model.proofs.lists.Tests.{never, none_is_some}
 use Rattle.dover_model.proofs.lists.Members.{map_member, some_same, found, on_map}
 use Rattle.dover_model.proofs.settled.Settling.{at_barrier}
+use Rattle.dover_model.proofs.finishes.Further.{map_back}
 use Rattle.dover_model.proofs.steps.Kept.{come_coming}
 use Rattle.dover_model.proofs.steps.Roles.{passes, is_running_role}
 use Rattle.dover_model.proofs.bound.Counting.{one}
@@ -62,13 +63,6 @@ less_before n h s (Waits k) low = less_mapped n h s.jobs (λ p. cond (eqb p.task
       by_test p false = (refl, omega arith)
 less_before n h s Ticks low = less_mapped n h s.jobs ticked
     (λ p. ((tick_plain p).0, omega (arith, (tick_plain p).4))) low
-
--- of a member of a mapped list
-map_back : {X Y : Type 0} (f : X → Y) (xs : List X) (y : Y) → IsMember y (map f xs)
-    → (x : X) × IsMember x xs × (y ≡ f x)
-map_back f [] y member = absurd member
-map_back f (x ∷ xs) y (inl e) = (x, inl refl, e)
-map_back f (x ∷ xs) y (inr member) = let it = map_back f xs y member in (it.0, inr it.1, it.2)
 
 -- the clock is as before, or the move is a tick
 clock_after : (s : State) (m : Move) → ((after s m).clock ≡ s.clock) ⊎ (m ≡ Ticks)

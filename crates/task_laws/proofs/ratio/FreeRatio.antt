@@ -15,7 +15,6 @@ use Rattle.dover_model.specs.Instance.{with_ratio}
 use Rattle.dover_model.specs.Orders.{is_over}
 use Rattle.dover_model.specs.Run.{run_from, printed_of, value_of_end}
 use Rattle.dover_model.proofs.settled.Settling.{unless}
-use Rattle.dover_model.proofs.finishes.FinishOrders.{taken}
 use Rattle.task_laws.specs.Slower.{IsWithinSlower, worth_by}
 use Rattle.task_laws.specs.Slower.{AskAtMost}
 use Rattle.std.proofs.Common.{◌≤◌}
@@ -34,6 +33,10 @@ module _ (k l : Fraction) (f : Factor) (of_k : k.factor ≡ Some f) (of_l : l.fa
   alarm_alike v (Some r) (Some x) =
       ap (λ b. Some (Prints (cond b (Take v.clock r.number x.number) (Abandon v.clock x.number))))
       (heavy_alike x.job.value v.privileged_value)
+
+-- a step
+abbrev taken : State → Move → Step
+taken s m = record { before = s; move = m }
 
 module _ (rules : Rules) (k : Fraction) (f : Factor) (of_rules : rules.ratio.factor ≡ Some f) (of_k : k.factor ≡ Some f)
   where

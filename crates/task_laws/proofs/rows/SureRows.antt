@@ -5,7 +5,8 @@ use Rattle.dover_model.specs.Common.{Instance, fraction, with_factor, is_heavy}
 use Rattle.dover_model.specs.declared.events.Event.TheVariants.{Release, Run, Take, Complete, Abandon}
 use Rattle.dover_model.specs.declared.events.Event.TheVariants.{End}
 use Rattle.dover_model.specs.Common.{printed}
-use Rattle.task_laws.specs.Sure.{worth_beside, Stream, stream_at, most_crossing, most_beside}
+use Rattle.task_laws.specs.Sure.{Stream, stream_at, most_crossing, most_beside}
+use Rattle.dover_model.specs.Windows.{worth_beside}
 use Rattle.task_laws.specs.Sure.{is_spread, most_fitting, IsSure}
 use Rattle.task_laws.proofs.sure.Streams.{sure_of_stream, heavy_by_sum, heavy_by_sets}
 use Rattle.dover_model.proofs.rows.Written.{job, one}

@@ -11,7 +11,7 @@ use Rattle.std.proofs.lemmas.Bool.{cases_lt}
 use Rattle.std.proofs.lemmas.List.Sums.{sum_by-cons}
 use Rattle.dover_model.specs.Common.{JobFacts, IsMember, Each}
 use Rattle.dover_model.specs.Common.{EachTwo}
-use Rattle.task_laws.specs.Sure.{crosses}
+use Rattle.dover_model.specs.Windows.{crosses}
 use Rattle.dover_model.proofs.lists.Members.{sum_same, sum_zero, sum_plus, term_le_sum}
 use Rattle.dover_model.proofs.lists.Tests.{never}
 

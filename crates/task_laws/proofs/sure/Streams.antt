@@ -10,8 +10,9 @@ use Rattle.std.proofs.lemmas.List.Sums.{sum_by-cons}
 use Rattle.dover_model.specs.Common.{Fraction, JobFacts, IsJob, Instance, IsValid, numbered, IsHeavy, IsMember, Each}
 use Rattle.task_laws.specs.Sure.{IsHeavyAt, IsCompleted, Stream, stream_at, blank_stream}
 use Rattle.task_laws.specs.Sure.{AreOfStreams, most_crossing, CanStack, worth_of, is_spread, IsSure, most_beside}
-use Rattle.task_laws.specs.Sure.{IsOfStream, others, best_of, most_fitting, worth_beside}
-use Rattle.task_laws.specs.Sure.{crosses, crossing_beside, chosen_value, chosen_work, CanHold, work_within}
+use Rattle.task_laws.specs.Sure.{IsOfStream, others, best_of, most_fitting}
+use Rattle.dover_model.specs.Windows.{worth_beside, crosses, crossing_beside}
+use Rattle.task_laws.specs.Sure.{chosen_value, chosen_work, CanHold, work_within}
 use Rattle.dover_model.proofs.lists.Members.{sum_le, sum_zero, term_le_sum, all_member}
 use Rattle.dover_model.proofs.lists.Members.{number_of}
 use Rattle.dover_model.proofs.valid.JobLimits.{JobLimits, job_limits}

@@ -17,9 +17,10 @@ use Rattle.dover_model.specs.Common.{is_privileged, is_over, is_done, left, late
 use Rattle.dover_model.specs.Common.{IsHeavy, is_heavy, Move, Prints, Ticks, step, after, ending, ◌or_else◌, with_role}
 use Rattle.dover_model.specs.Common.{displaced, ticked, Step, is_end, run, printed, printed_of, event_of, IsWholeRun}
 use Rattle.dover_model.specs.Common.{IsMember, Each, IsNumberedFrom, IsSound, Keeps, jobs_of}
-use Rattle.task_laws.specs.Sure.{worth_beside, IsHeavyAt}
+use Rattle.task_laws.specs.Sure.{IsHeavyAt}
+use Rattle.dover_model.specs.Windows.{worth_beside, crosses, crossing_beside}
 use Rattle.task_laws.specs.Sure.{NoneDisplaces, NoneMeets, IsCompleted}
-use Rattle.task_laws.specs.Sure.{crosses, crossing_beside, chosen_value, chosen_work, CanHold, FitWindows}
+use Rattle.task_laws.specs.Sure.{chosen_value, chosen_work, CanHold, FitWindows}
 use Rattle.dover_model.proofs.lists.Members.{on_map, map_member, filter_member, sum_filter, sum_le, sum_same}
 use Rattle.dover_model.proofs.lists.Members.{sum_zero, term_le_sum, cond_le, found, not_found}
 use Rattle.dover_model.proofs.valid.JobLimits.{JobLimits, job_limits}

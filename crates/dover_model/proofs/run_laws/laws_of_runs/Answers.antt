@@ -4,7 +4,7 @@ use Rattle.dover_model.proofs.runs.Ending.{run_is_whole, run_over, few_printed}
 use Rattle.dover_model.proofs.settled.Settling.{settled_is_run}
 use Rattle.dover_model.proofs.settled.Barriers.{settled_at_barrier, state_after}
 use Rattle.dover_model.proofs.settled.Prefixes.{settled_prefix, printed_prefix}
-use Rattle.dover_model.proofs.finishes.Meeting.{on_line_finishes, finishing_valid}
+use Rattle.dover_model.proofs.finishes.Meeting.{on_line_finishes}
 use Rattle.dover_model.proofs.runs.Runs.{run_busy, none_lost, all_value}
 use Rattle.dover_model.proofs.runs.Calm.{four_is_three, three_is_four}
 use Rattle.dover_model.proofs.runs.OneDensity.{one_density}
@@ -14,15 +14,9 @@ use Rattle.dover_model.proofs.runs.Honest.{observed_honest, observed_all}
 use Rattle.dover_model.proofs.settled.Later.{same_step}
 use Rattle.std.proofs.Common.{arith, ap}
 use Rattle.dover_model.proofs.steps.Jumping.{later_by-zero, after-later_by, later_keeps, later_ticks}
-use Rattle.dover_model.proofs.finishes.Further.{settled_still, printed_still, settled_same, ahead_yet, stays_at_mark}
+use Rattle.dover_model.proofs.finishes.Further.{settled_still, printed_still, settled_same, stays_at_mark}
 use Rattle.dover_model.proofs.finishes.Further.{next_at_mark, over_open, over_step}
-use Rattle.dover_model.specs.Common.{printed_of, finishing}
-use Rattle.dover_model.proofs.finishes.FinishOrders.{same_alike, open_alike, step_alike, steps_alike, settled_alike}
-use Rattle.dover_model.proofs.finishes.FinishOrders.{state_alike, run_alike, finish_alike}
 use Rattle.dover_model.specs.State.{opening}
-use Rattle.dover_model.proofs.settled.SilentTicks.{steps_between, state_between, runs_between, none_between}
-use Rattle.dover_model.proofs.settled.SilentTicks.{yet_between}
-use Rattle.dover_model.proofs.finishes.AheadFinishes.{ahead_later, ahead_silent, ahead_at_mark}
 use Rattle.dover_model.proofs.settled.LastSteps.{last_tells}
 use Rattle.dover_model.proofs.finishes.Processors.{right_by_prints}
 use Rattle.dover_model.proofs.run_laws.laws_of_runs.Goals as goal
@@ -138,47 +132,6 @@ pub returns-clause-further_finishes_change_nothing_settled_at_the_end :
 returns-clause-further_finishes_change_nothing_settled_at_the_end c =
     λ J more mark valid none. printed_still J valid more mark none
 
-pub returns-clause-the_order_of_finishes_changes_nothing_alike :
-    goal.returns-clause-the_order_of_finishes_changes_nothing_alike
-returns-clause-the_order_of_finishes_changes_nothing_alike c = same_alike
-
-pub returns-clause-the_order_of_finishes_changes_nothing_valid :
-    goal.returns-clause-the_order_of_finishes_changes_nothing_valid
-returns-clause-the_order_of_finishes_changes_nothing_valid c J fs =
-    (finishing_valid J fs, finishing_valid (finishing J fs) J.rules.finishes)
-
-pub returns-clause-the_order_of_finishes_changes_nothing_open_step :
-    goal.returns-clause-the_order_of_finishes_changes_nothing_open_step
-returns-clause-the_order_of_finishes_changes_nothing_open_step c = open_alike
-
-pub returns-clause-the_order_of_finishes_changes_nothing_step :
-    goal.returns-clause-the_order_of_finishes_changes_nothing_step
-returns-clause-the_order_of_finishes_changes_nothing_step c = step_alike
-
-pub returns-clause-the_order_of_finishes_changes_nothing_settled_steps :
-    goal.returns-clause-the_order_of_finishes_changes_nothing_settled_steps
-returns-clause-the_order_of_finishes_changes_nothing_settled_steps c J fs gs mark alike = steps_alike J fs gs alike mark
-
-pub returns-clause-the_order_of_finishes_changes_nothing_settled :
-    goal.returns-clause-the_order_of_finishes_changes_nothing_settled
-returns-clause-the_order_of_finishes_changes_nothing_settled c J fs gs mark alike = settled_alike J fs gs alike mark
-
-pub returns-clause-the_order_of_finishes_changes_nothing_settled_state :
-    goal.returns-clause-the_order_of_finishes_changes_nothing_settled_state
-returns-clause-the_order_of_finishes_changes_nothing_settled_state c J fs gs mark alike = state_alike J fs gs alike mark
-
-pub returns-clause-the_order_of_finishes_changes_nothing_run :
-    goal.returns-clause-the_order_of_finishes_changes_nothing_run
-returns-clause-the_order_of_finishes_changes_nothing_run c = run_alike
-
-pub returns-clause-the_order_of_finishes_changes_nothing_printed :
-    goal.returns-clause-the_order_of_finishes_changes_nothing_printed
-returns-clause-the_order_of_finishes_changes_nothing_printed c J fs gs alike = ap printed_of (run_alike J fs gs alike)
-
-pub returns-clause-the_order_of_finishes_changes_nothing_finish_at :
-    goal.returns-clause-the_order_of_finishes_changes_nothing_finish_at
-returns-clause-the_order_of_finishes_changes_nothing_finish_at c J fs gs t n alike = finish_alike J fs gs alike t n
-
 pub returns-clause-finishes_yet_to_come_change_nothing_settled_steps :
     goal.returns-clause-finishes_yet_to_come_change_nothing_settled_steps
 returns-clause-finishes_yet_to_come_change_nothing_settled_steps c J more mark valid yet =
@@ -188,47 +141,6 @@ pub returns-clause-finishes_yet_to_come_change_nothing_settled_state :
     goal.returns-clause-finishes_yet_to_come_change_nothing_settled_state
 returns-clause-finishes_yet_to_come_change_nothing_settled_state c J more mark valid yet =
     ap (state_after (opening J.jobs)) (settled_same J valid more mark yet.before yet.there)
-
-pub returns-clause-where_no_more_is_settled_time_passes_silently_steps :
-    goal.returns-clause-where_no_more_is_settled_time_passes_silently_steps
-returns-clause-where_no_more_is_settled_time_passes_silently_steps c J mark later valid =
-    steps_between J valid mark later
-
-pub returns-clause-where_no_more_is_settled_time_passes_silently_state :
-    goal.returns-clause-where_no_more_is_settled_time_passes_silently_state
-returns-clause-where_no_more_is_settled_time_passes_silently_state c J mark later valid =
-    state_between J valid mark later
-
-pub returns-clause-where_no_more_is_settled_time_passes_silently_runs :
-    goal.returns-clause-where_no_more_is_settled_time_passes_silently_runs
-returns-clause-where_no_more_is_settled_time_passes_silently_runs c J mark later r valid ordered same runs =
-    runs_between J valid mark later ordered same r runs
-
-pub returns-clause-where_no_more_is_settled_finishes_are_yet_to_come_before :
-    goal.returns-clause-where_no_more_is_settled_finishes_are_yet_to_come_before
-returns-clause-where_no_more_is_settled_finishes_are_yet_to_come_before c J mark later more valid ordered same yet =
-    none_between J valid mark later ordered same more yet
-
-pub returns-clause-where_no_more_is_settled_finishes_are_yet_to_come_there :
-    goal.returns-clause-where_no_more_is_settled_finishes_are_yet_to_come_there
-returns-clause-where_no_more_is_settled_finishes_are_yet_to_come_there c J mark later more valid ordered same yet =
-    yet_between J valid mark later ordered same more yet
-
-pub returns-clause-finishes_ahead_of_their_jobs_are_yet_to_come_yet :
-    goal.returns-clause-finishes_ahead_of_their_jobs_are_yet_to_come_yet
-returns-clause-finishes_ahead_of_their_jobs_are_yet_to_come_yet c J mark more valid = ahead_yet J valid mark more
-
-pub returns-clause-finishes_ahead_of_their_jobs_are_yet_to_come_later :
-    goal.returns-clause-finishes_ahead_of_their_jobs_are_yet_to_come_later
-returns-clause-finishes_ahead_of_their_jobs_are_yet_to_come_later c = ahead_later
-
-pub returns-clause-finishes_ahead_of_their_jobs_are_yet_to_come_silent :
-    goal.returns-clause-finishes_ahead_of_their_jobs_are_yet_to_come_silent
-returns-clause-finishes_ahead_of_their_jobs_are_yet_to_come_silent c = ahead_silent
-
-pub returns-clause-finishes_ahead_of_their_jobs_are_yet_to_come_at_the_mark :
-    goal.returns-clause-finishes_ahead_of_their_jobs_are_yet_to_come_at_the_mark
-returns-clause-finishes_ahead_of_their_jobs_are_yet_to_come_at_the_mark c = ahead_at_mark
 
 pub returns-clause-a_job_may_finish_at_the_mark_stays : goal.returns-clause-a_job_may_finish_at_the_mark_stays
 returns-clause-a_job_may_finish_at_the_mark_stays c = λ J mark r valid at. stays_at_mark J valid mark r at
