@@ -18,8 +18,7 @@ returns-in-Timeline c = λ J of.
     let heads = map (λ label. label.items) c.deref-in-Timeline-2.result.now in
     let named = ap (λ ls. map (λ label. label.items) ls) c.deref-in-Timeline-2.ensures.value ∙ c.in_ok-labels.ensures
     ∙ ap (labels c.args.tasks.now) (c.deref-2.ensures.value ∙ sym c.deref-in-Timeline.ensures.value) in
-    rw c.in-Timeline.is (IfOk-weaker c.grouped_timeline.result _ _ (λ written is. timeline_text c.args.tasks.now J
-    c.deref.result.now
+    rw c.in-Timeline.is (IfOk-weaker c.grouped_timeline.result _ _ (λ written is. timeline_text c.args.tasks.now J c.deref.result.now
     of_now heads (c.deref.ensures.value ∙ c.in_ok-jobs.ensures ∙ jobs_are c.args.ratio c.args.steps.now J of)
     (c.deref-in-Timeline.ensures.value ∙ c.in_ok-of.ensures) named c.in-Timeline.window written.items is)
     (c.grouped_timeline.ensures J of))
