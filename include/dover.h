@@ -45,8 +45,8 @@ extern "C" {
 #define DOVER_WORDS 90
 typedef struct { uint64_t opaque[DOVER_WORDS]; } dover;
 
-/* How many bytes an engine takes: at most sizeof(dover), as the prover holds of the library of this header. Test it once,
-   at the start: it tells a library of another version. */
+/* How many bytes an engine takes: at most sizeof(dover), as the prover holds of the library of this header. Test it
+   once, at the start: it tells a library of another version. */
 size_t dover_size(void);
 
 /* Makes an engine in the place, whatever its bytes are. dover_status says whether there is one. Called again without a

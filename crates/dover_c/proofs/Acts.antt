@@ -142,7 +142,7 @@ steps_or_not mark answer v w it = by_says it.says it.step it.shown where
     | Ok decision ↦ numbers_of decision
     | Err cause ↦ refused cause
   ] → IsTaken mark answer v w ⊎ IsRefused answer v w
-  by_says (Ok decision) step so = inl (decision, step, so)
+  by_says (Ok decision) step so = inl (decision, (step.0, step.1), so)
   by_says (Err cause) step so = inr (cause, step.1, so)
 
 -- it was where there is no cause to refuse it
@@ -153,7 +153,7 @@ unrefused_taken mark answer v w may it = by_says it.says it.step it.shown where
     | Ok decision ↦ numbers_of decision
     | Err cause ↦ refused cause
   ] → IsTaken mark answer v w
-  by_says (Ok decision) step so = (decision, step, so)
+  by_says (Ok decision) step so = (decision, (step.0, step.1), so)
   by_says (Err cause) step so = none_is_some (sym may ∙ step.0)
 
 -- it was where the answer is a decision or none

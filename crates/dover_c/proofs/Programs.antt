@@ -345,7 +345,8 @@ module _ (version : Version) (k : Fraction) (capacity : ℕ) (pasts : List Past)
       ]
 
   -- and behind that the job runs which was named
-  pub named_given : (acts : List Act) (tick : ℕ) (named : Named) (f : early.Finish) (first second : Decided) (s t : Slot)
+  pub named_given : (acts : List Act) (tick : ℕ) (named : Named) (f : early.Finish) (first second : Decided)
+      (s t : Slot)
       → IsProgram version k capacity pasts acts s → SuccessorAnswers s s named → tick ≤ last_tick_in version
       → DoesAll (Done tick f 0 ∷ Step tick first ∷ Step tick second ∷ []) s t → second ≡ shown_next tick named
   named_given acts tick named f first second s t program asked within does = elim it.there [
@@ -360,7 +361,8 @@ module _ (version : Version) (k : Fraction) (capacity : ℕ) (pasts : List Past)
         let (y, there_still, two) = called _ _ x does.2.0 does.2.2.0 there_too does.2.2.1 in
         let (b, leads_on, is) = unrefused_taken tick second x y
         (unrefused version tick within x
-        (version_in x (with_finishes J (f ∷ [])) _ (leads.1.gave (with_finishes J (f ∷ [])) _ gave)) leads.1.last) two in
+        (version_in x (with_finishes J (f ∷ [])) _ (leads.1.gave (with_finishes J (f ∷ [])) _ gave))
+        leads.1.last) two in
         let (z, same, says) = called _ _ it.w s s here asked in
         is ∙ shown_named tick b (successor_of it.w)
         (succeeding.named_next version k it.calls tick f a b it.w y (lives acts s program)

@@ -187,6 +187,7 @@ mark_code not_stepped.Finished = 10
 -- what the engine says of a step to a mark
 abbrev pub IsStepOf : ℕ → Life → Life → Result (Option Decision) NotStepped → Type 0
 IsStepOf mark v w (Ok answer) = MayFollow v.last (horizon.Mark mark) × Decides (horizon.Mark mark) v w answer
+    × (mark_refusal v.admission.rules.version v.last mark ≡ None)
 IsStepOf mark v w (Err cause) = (mark_refusal v.admission.rules.version v.last mark ≡ Some cause) × (w ≡ v)
 
 -- the answer to a step to a mark: a decision, none, or why no step was taken

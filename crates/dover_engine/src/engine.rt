@@ -1,6 +1,6 @@
 //! The engine.
 ghost use Rattle.std.specs.Prelude.{◌≡◌, ◌≤◌, ◌↔◌, ◌++◌, ◌||◌, ℕ, IsTrue, IfOk, IfErr, OnErr, OnOk, IsNone, IfSome};
-ghost use Rattle.std.specs.Prelude.{List, [], Some, option_to_list, ◌+◌, option_map};
+ghost use Rattle.std.specs.Prelude.{List, [], Some, None, option_to_list, ◌+◌, option_map};
 ghost use Rattle.dover_model.specs.Common.{last_tick, behind, job_of_numbers, Instance, MayFollow, is_ready_after};
 ghost use Rattle.dover_model.specs.Common.{is_end_given, no_jobs, due_by, runner_of, settled};
 ghost use Rattle.dover_model.specs.declared.events.Event.{Event};
@@ -314,6 +314,7 @@ impl Engine {
             (λ cause. mark_refusal self.old.admission.rules.version self.old.last mark ≡ Some cause) }
         ensures kept { OnErr result (self.new ≡ self.old) }
         ensures free { OnErr result (comparisons.new ≡ comparisons.old) }
+        ensures granted { OnOk result (mark_refusal self.old.admission.rules.version self.old.last mark ≡ None) }
         ensures may { OnOk result (MayFollow self.old.last (Mark mark)) }
         ensures decides { IfOk result (λ answer. Decides (Mark mark) self.old self.new answer) }
         ensures paid { (start : ℕ) → HasPaid self.old start comparisons.old → HasPaid self.new start comparisons.new }

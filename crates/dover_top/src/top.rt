@@ -59,8 +59,8 @@ use std::sync::ledger::Ledger;
 ///   beyond what was settled where it was paused. `resume pause` does the same, but where the input ends it does what
 ///   `pause` does.
 /// - `unroll UNTIL` reads periodic tasks, and writes the feed of all jobs that they release before this tick.
-/// - `sure` reads periodic tasks, and writes of each whether it passes a test by which no job of it is lost, however the
-///   jobs of all tasks come, and if not the least value that would pass it, if one would.
+/// - `sure` reads periodic tasks, and writes of each whether it passes a test by which no job of it is lost, however
+///   the jobs of all tasks come, and if not the least value that would pass it, if one would.
 /// - `budget C` reads periodic tasks, and writes them again with each work made a budget that pays for changes of hands
 ///   of at most C ticks.
 /// - `ratio` reads a feed or periodic tasks, whatever ratio within the limits they declare, and writes the least one

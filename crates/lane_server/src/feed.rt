@@ -20,9 +20,9 @@ use std::sync::ledger::Ledger;
 /// # Limits
 ///
 /// Those of a feed: lines of at most 128 bytes, 4,000,000 of them, and 1,000,000 jobs; from version Three on
-/// 16,000,000,000 of them, and 4,000,000,000 jobs. A line that breaks one is a fault, which comes out as the line that refuses the
-/// feed, and ends it. Memory is taken at the ratio line and for each admitted job alone, and there is none for more
-/// than 1,000,000 jobs that are ready at once.
+/// 16,000,000,000 of them, and 4,000,000,000 jobs. A line that breaks one is a fault, which comes out as the line that
+/// refuses the feed, and ends it. Memory is taken at the ratio line and for each admitted job alone, and there is none
+/// for more than 1,000,000 jobs that are ready at once.
 ///
 /// # Use
 ///

@@ -1,6 +1,6 @@
 -- What is put at the end of a feed is an answer.
-use Rattle.std.proofs.Common.{◌≡◌, ℕ, suc, List, ◌∷◌, [], refl, sym, ap, ◌∙◌, subst, false, inl, inr, Option, Result, Ok}
-use Rattle.std.proofs.Common.{Err}
+use Rattle.std.proofs.Common.{◌≡◌, ℕ, suc, List, ◌∷◌, [], refl, sym, ap, ◌∙◌, subst, false, inl, inr, Option, Result}
+use Rattle.std.proofs.Common.{Ok, Err}
 use Rattle.dover_model.specs.Common.{Account, Instance, account_of_lines, fault_text, in_lines}
 use Rattle.dover_port.specs.declared.status.Status.{Status}
 use Rattle.dover_port.specs.declared.status.Status.TheVariants.{Refused}

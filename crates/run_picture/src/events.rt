@@ -93,7 +93,8 @@ pub fn chrome(alloc: Global, k: Ratio, run: &[PackedEvent]) -> Result<Vec<u8>, M
     let worths = weights(alloc, k, run)?;
     let mut text = Vec::from_slice(
         alloc,
-        b"{\"traceEvents\":[\n{\"pid\":0,\"tid\":0,\"ph\":\"M\",\"name\":\"thread_name\",\"args\":{\"name\":\"processor\"}}\n",
+        b"{\"traceEvents\":[\n\
+        {\"pid\":0,\"tid\":0,\"ph\":\"M\",\"name\":\"thread_name\",\"args\":{\"name\":\"processor\"}}\n",
     )?;
     put_events(alloc, &mut text, run, &worths)?;
     text.extend_from_slice(b"]}\n")?;
@@ -161,7 +162,8 @@ fn put_text(text: &mut Vec<u8>, bytes: &[u8]) -> Result<(), Memory> {
 fn put_opens(text: &mut Vec<u8>, number: u64, job: &Job) -> Result<(), Memory> {
     put(
         text,
-        b",{\"pid\":0,\"tid\":0,\"ph\":\"b\",\"ts\":@,\"cat\":\"job\",\"id\":\"@\",\"name\":\"job @\",\"args\":{\"work\":@,\"deadline\":@,\"value\":@}}\n",
+        b",{\"pid\":0,\"tid\":0,\"ph\":\"b\",\"ts\":@,\"cat\":\"job\",\"id\":\"@\",\"name\":\"job @\",\
+        \"args\":{\"work\":@,\"deadline\":@,\"value\":@}}\n",
         &[
             job.release(),
             number,

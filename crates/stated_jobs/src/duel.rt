@@ -7,8 +7,5 @@ mod links;
 
 pub use asking::{NoDuel, front_count};
 pub use coming::{Coming, Next};
-pub use laws::{
-    each_scheduler_loses_on_a_front, none_saves_much_more_within_the_limits,
-    on_line_is_neither_weak_nor_strong, the_rules_save_the_most,
-};
+pub use laws::laws_of_duels;
 pub use links::Share;

@@ -3,6 +3,8 @@ pub mod OneJob
 pub mod Switching
 pub mod Stretches
 pub mod PayingForward
+pub mod SectionTicks
+pub mod SectionSteps
 pub mod RunToTheEnd
 pub mod Families
 pub mod FewChanges
