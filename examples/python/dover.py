@@ -117,9 +117,9 @@ def _numbers(bits, *values):
 
 
 class Engine:
-    """An engine for k = p/q, with room for so many open jobs at once, by version 4 of the rules with the factor 2. Where
-    a version (1 to 4) is named the factor is that of k, and with (b, c) it is one of one's own. All its memory is taken
-    here; close(), or the end of a `with`, gives it back."""
+    """An engine for k = p/q, with room for so many open jobs at once, by version 4 of the rules with the factor 2.
+    Where a version (1 to 4) is named the factor is that of k, and with (b, c) it is one of one's own. All its memory
+    is taken here; close(), or the end of a `with`, gives it back."""
 
     def __init__(self, p, q=1, version=None, capacity=1000, factor=None):
         if version is None:
