@@ -1,10 +1,14 @@
 """Which program the scripts of this folder call: the one that `--dover PROGRAM` names among their words, or that of
-this checkout where it is built. None of them builds it."""
+this checkout where it is built. What is installed calls the program that is installed with it. None builds one."""
 import os
 import shlex
 import sys
 
-BUILT = os.path.join(os.path.dirname(os.path.dirname(os.path.realpath(__file__))), "crates/dover_cli/out/dover_cli")
+FOLDER = os.path.dirname(os.path.realpath(__file__))
+BUILT = os.path.join(os.path.dirname(FOLDER), "crates/dover_cli/out/dover_cli")
+# This folder is PREFIX/share/dover then.
+INSTALLED = os.path.join(os.path.dirname(os.path.dirname(FOLDER)), "bin/dover")
+IS_INSTALLED = FOLDER.endswith("/share/dover")
 NOT_BUILT = 7
 
 
@@ -21,8 +25,9 @@ def command(program=None):
     a blank in it. Without one it is that of the checkout, and this ends where it isn't built."""
     if program is not None:
         return [program] if os.access(program, os.X_OK) else shlex.split(program)
-    if not os.access(BUILT, os.X_OK):
+    built = INSTALLED if IS_INSTALLED else BUILT
+    if not os.access(built, os.X_OK):
         print(f"{os.path.relpath(sys.argv[0])}: not built: ./dover build proves and builds the program; "
               "--dover './dover try' takes it unproved", file=sys.stderr)
         sys.exit(NOT_BUILT)
-    return [BUILT]
+    return [built]

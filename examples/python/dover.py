@@ -5,9 +5,10 @@
         act_on(decision)
     number = engine.admit(0, 4, 6, 8)       # release, work, deadline, value
 
-The library is libdover.so, which `./dover install` makes, or what the variable LIBDOVER names. The header says what
-each call means, with units and limits. What it answers by a status is an exception here. One thread at a time calls an
-engine; an interpreter with a global lock sees to that, since it is kept through each call.
+The library is what the variable LIBDOVER names, or libdover.so, which `./dover install` puts in a folder above this
+module's, and which is looked for as the loader does if it isn't there. The header says what each call means, with units
+and limits. What it answers by a status is an exception here. One thread at a time calls an engine; an interpreter with
+a global lock sees to that, since it is kept through each call.
 """
 import collections
 import ctypes
@@ -49,9 +50,9 @@ NOT_DONE = {1: "unsettled", 2: "behind", 3: "not running", 4: "version", 7: "clo
 NOT_RESTARTED = {1: "unsettled", 2: "open", 7: "closed", 10: "finished"}
 NOT_STEPPED = {8: "falls", 9: "late", 10: "finished", 11: "closed"}
 
-# At a tick, a job gets the processor, or ends. `other` is the job that stops, at a preemption or a take. At the end the
-# tick is the value of all jobs that completed.
-Decision = collections.namedtuple("Decision", "kind tick job other")
+# At a tick, a job is admitted, gets the processor, or ends. `other` is the job that stops, at a preemption or a take.
+# At the end there is the value of all jobs that completed, and no tick and no job. What isn't there is None.
+Decision = collections.namedtuple("Decision", "kind tick job other value")
 
 
 def _load(path):
@@ -63,7 +64,14 @@ def _load(path):
     return library
 
 
-_LIBRARY = _load(os.environ.get("LIBDOVER", "libdover.so"))
+def _place():
+    """The library that LIBDOVER names, the one that was installed with this module, or where the loader finds it."""
+    folder = os.path.dirname(os.path.realpath(__file__))
+    beside = os.path.join(os.path.dirname(os.path.dirname(folder)), "libdover.so")
+    return os.environ.get("LIBDOVER") or (beside if os.path.exists(beside) else "libdover.so")
+
+
+_LIBRARY = _load(_place())
 
 
 class DoverError(Exception):
@@ -110,8 +118,8 @@ def _numbers(bits, *values):
 
 class Engine:
     """An engine for k = p/q, with room for so many open jobs at once, by version 4 of the rules with the factor 2.
-    Where a version (1 to 4) is named the factor is that of k, and with (b, c) it is one of one's own. All its memory is
-    taken here; close(), or the end of a `with`, gives it back."""
+    Where a version (1 to 4) is named the factor is that of k, and with (b, c) it is one of one's own. All its memory
+    is taken here; close(), or the end of a `with`, gives it back."""
 
     def __init__(self, p, q=1, version=None, capacity=1000, factor=None):
         if version is None:
@@ -192,8 +200,10 @@ class Engine:
             raise NotStepped(answer.kind, NOT_STEPPED)
         if not answer.kind:
             return None
-        tick = answer.tick + (answer.other << 64 if KINDS[answer.kind] == "end" else 0)
-        return Decision(KINDS[answer.kind], tick, answer.job, answer.other)
+        kind = KINDS[answer.kind]
+        if kind == "end":
+            return Decision(kind, None, None, None, answer.other << 64 | answer.tick)
+        return Decision(kind, answer.tick, answer.job, answer.other if kind in ("preempt", "take") else None, None)
 
     def __enter__(self):
         return self

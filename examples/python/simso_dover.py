@@ -43,7 +43,7 @@ class Dover(Scheduler):
     def follow(self):
         """Acts on all that is decided by now, and comes again when the next decision is due."""
         now, cpu = self.sim.now(), self.processors[0]
-        for kind, _, number, _ in self.engine.settle(now):
+        for kind, _, number, *_ in self.engine.settle(now):
             if kind in ("run", "preempt", "take"):
                 self.runs = number
             elif kind in ("complete", "abandon"):
