@@ -4,4 +4,5 @@ pub mod Settling
 pub mod Prefixes
 pub mod Onlines
 pub mod Finishes
+pub mod MarkTick
 pub mod AtMark

@@ -89,8 +89,8 @@ pub fn laws_of_settled_steps()
         → HaveTheSame J.rules.finishes finishes → CompleteOne processors J.rules.version J.rules.finishes s
         → IsDueAlike processors J finishes s }
 
-    // A job that runs at the mark, where all that is settled was taken before its tick, may finish there: what is
-    // settled stays, and its completion is next, on its processor.
+    // A job that runs at the mark may finish there, where of the mark's tick nothing was printed but completions and
+    // other jobs that got a free processor: what is settled stays, and its completion is next, on its processor.
     ensures finish_at_mark_stays { (processors : ℕ) (J : Instance) (mark : ℕ) (p : Placed) → 1 ≤ processors → IsValid J
         → RunsAtMark processors J mark p → Begins (settled_steps processors J mark)
         (settled_steps processors (with_finishes J (finish_now p.task ∷ [])) mark) }
