@@ -6,3 +6,4 @@ pub mod Onlines
 pub mod Finishes
 pub mod MarkTick
 pub mod AtMark
+pub mod Meeting

@@ -226,8 +226,8 @@ module _ (processors : ℕ) (J : Instance) (valid : IsValid J) (some : 1 ≤ pro
   abbrev TakesLast : Move → Type 0
   TakesLast m = is_take_of n m ≡ true → (IsSpent n s w → ⊥) × ((more : ℕ) → IsSpent n (after s m) more)
 
-  deed_last : (i : ℕ) → i < processors → (m : single.Move) → Deed J.rules.ratio (seen_from i s) (single.Prints (End 0)) m
-      → TakesLast (on i m)
+  deed_last : (i : ℕ) → i < processors → (m : single.Move)
+      → Deed J.rules.ratio (seen_from i s) (single.Prints (End 0)) m → TakesLast (on i m)
   deed_last i low m (Completed r member runs) e = never e
   deed_last i low m (Resumed p member held none least why) e = never e
   deed_last i low m (Started o member waits none first fits next) e = never e

@@ -1,5 +1,5 @@
--- A job that runs at the barrier of a mark and had the tick before it may finish there, where of the mark's tick nothing
--- but completions and dispatches is settled.
+-- A job that runs at the barrier of a mark may finish there, where of the mark's tick nothing is settled but
+-- completions, and other jobs that got a free processor.
 use Rattle.std.proofs.Common.{◌≡◌, ℕ, ◌+◌, ◌≤◌, ◌<◌, ◌⊎◌, inl, inr, List, [], ◌∷◌, ◌++◌, map, refl, sym, ap, ◌∙◌, subst}
 use Rattle.std.proofs.Common.{Bool, true, false, cond, arith, ◌&&◌, ◌==◌, eqb-true, eq-eqb, nat_lt, lt-ltb}
 use Rattle.std.proofs.Common.{ltb-true, ltb-false, Option, Some, None}
@@ -42,7 +42,7 @@ use Rattle.many_processors.proofs.steps.Turns.{which, running_job, open_kept, op
 -- ---- who has come to a finish
 
 -- the parts of the answer of a processor
-finish_parts : (f : Finish) (q : Seen) (m : Move) (o : Option Task) → finish_on f q o ≡ Some m
+pub finish_parts : (f : Finish) (q : Seen) (m : Move) (o : Option Task) → finish_on f q o ≡ Some m
     → (t : Task) × (o ≡ Some t) × (has_come_to t f ≡ true) × (Prints q.processor (Complete q.view.clock t.number) ≡ m)
 finish_parts f q m None some = none_is_some some
 finish_parts f q m (Some t) some = by_test (has_come_to t f) refl some where
@@ -54,7 +54,7 @@ finish_parts f q m (Some t) some = by_test (has_come_to t f) refl some where
   by_test false e is = none_is_some is
 
 -- its numbers
-come_parts : (t : Task) (f : Finish) → has_come_to t f ≡ true → (t.number ≡ f.number) × (t.had ≡ f.had)
+pub come_parts : (t : Task) (f : Finish) → has_come_to t f ≡ true → (t.number ≡ f.number) × (t.had ≡ f.had)
 come_parts t f e =
     let outer = and_parts ((f.number == t.number) && (f.had == t.had)) (nat_lt 0 t.had) e in
     let inner = and_parts (f.number == t.number) (f.had == t.had) outer.0 in
@@ -100,7 +100,7 @@ run_early (Waits n) e = never e
 run_early Ticks e = never e
 
 -- behind what answers none, the first answer is that of the others
-first_behind : {X Y : Type 0} (f : X → Option Y) (xs ys : List X) → first_some f xs ≡ None
+pub first_behind : {X Y : Type 0} (f : X → Option Y) (xs ys : List X) → first_some f xs ≡ None
     → first_some f (xs ++ ys) ≡ first_some f ys
 first_behind f [] ys none = refl
 first_behind f (x ∷ xs) ys none =
@@ -205,6 +205,20 @@ module _ (processors : ℕ) (J : Instance) (valid : IsValid J) (some : 1 ≤ pro
 
 -- ---- before it
 
+-- where the first three answer none, what comes behind them is done
+pub behind_none : (c r d : Option Move) (other : Move) → c ≡ None → r ≡ None → d ≡ None
+    → (c or_else r or_else d or_else other) ≡ other
+behind_none c r d other no_c no_r no_d = ap (λ o. o or_else r or_else d or_else other) no_c
+    ∙ ap (λ o. o or_else d or_else other) no_r ∙ ap (λ o. o or_else other) no_d
+
+-- what is the same there is the same
+pub same_behind : (c r d a b : Option Move) (other : Move) → (c ≡ None → r ≡ None → d ≡ None → a ≡ b)
+    → (c or_else r or_else d or_else a or_else other) ≡ (c or_else r or_else d or_else b or_else other)
+same_behind (Some m) r d a b other same = refl
+same_behind None (Some m) d a b other same = refl
+same_behind None None (Some m) a b other same = refl
+same_behind None None None a b other same = ap (λ o. o or_else other) (same refl refl refl)
+
 -- an answer in front is the first
 first_stays : {X Y : Type 0} (f : X → Option Y) (xs ys : List X) (y : Y) → first_some f xs ≡ Some y
     → first_some f (xs ++ ys) ≡ Some y
@@ -300,47 +314,17 @@ module _ (processors : ℕ) (J : Instance) (valid : IsValid J) (some : 1 ≤ pro
   -- so a step beside a job is the same with further finishes
   beside_same : IsBeside n (open_step processors J.rules s)
       → open_step processors (having J.rules (J.rules.finishes ++ more)) s ≡ open_step processors J.rules s
-  beside_same beside = by_first (or_split (first_some completion seen_all) _ (open_step processors J.rules s) refl) where
-    m : Move
-    m = open_step processors J.rules s
-
-    by_finish : (first_some (finishing seen_all) J.rules.finishes ≡ Some m)
-        ⊎ ((first_some (finishing seen_all) J.rules.finishes ≡ None) × (behind_finishes J.rules seen_all ≡ m))
-        → (first_some (finishing seen_all) (J.rules.finishes ++ more) or_else behind_finishes J.rules seen_all) ≡ m
-    by_finish (inl is) = ap (λ o. o or_else behind_finishes J.rules seen_all)
-        (first_stays (finishing seen_all) J.rules.finishes more m is)
-    by_finish (inr it) = absurd (behind_not m it.1 beside)
-
-    by_third : (for_one dispatch (free_one seen_all) ≡ Some m) ⊎ ((for_one dispatch (free_one seen_all) ≡ None)
-        × ((first_some (finishing seen_all) J.rules.finishes or_else behind_finishes J.rules seen_all) ≡ m))
-        → (for_one dispatch (free_one seen_all) or_else first_some (finishing seen_all) (J.rules.finishes ++ more)
-        or_else behind_finishes J.rules seen_all) ≡ m
-    by_third (inl is) = ap (λ o. o or_else first_some (finishing seen_all) (J.rules.finishes ++ more)
-        or_else behind_finishes J.rules seen_all) is
-    by_third (inr it) = ap (λ o. o or_else first_some (finishing seen_all) (J.rules.finishes ++ more)
-        or_else behind_finishes J.rules seen_all) it.0
-        ∙ by_finish (or_split (first_some (finishing seen_all) J.rules.finishes) _ m it.1)
-
-    by_second : (first_some resumption seen_all ≡ Some m) ⊎ ((first_some resumption seen_all ≡ None)
-        × ((for_one dispatch (free_one seen_all) or_else first_some (finishing seen_all) J.rules.finishes
-        or_else behind_finishes J.rules seen_all) ≡ m))
-        → (first_some resumption seen_all or_else for_one dispatch (free_one seen_all)
-        or_else first_some (finishing seen_all) (J.rules.finishes ++ more) or_else behind_finishes J.rules seen_all) ≡ m
-    by_second (inl is) = ap (λ o. o or_else for_one dispatch (free_one seen_all)
-        or_else first_some (finishing seen_all) (J.rules.finishes ++ more) or_else behind_finishes J.rules seen_all) is
-    by_second (inr it) = ap (λ o. o or_else for_one dispatch (free_one seen_all)
-        or_else first_some (finishing seen_all) (J.rules.finishes ++ more) or_else behind_finishes J.rules seen_all) it.0
-        ∙ by_third (or_split (for_one dispatch (free_one seen_all)) _ m it.1)
-
-    by_first : (first_some completion seen_all ≡ Some m) ⊎ ((first_some completion seen_all ≡ None)
-        × ((first_some resumption seen_all or_else for_one dispatch (free_one seen_all)
-        or_else first_some (finishing seen_all) J.rules.finishes or_else behind_finishes J.rules seen_all) ≡ m))
-        → open_step processors (having J.rules (J.rules.finishes ++ more)) s ≡ m
-    by_first (inl is) = ap (λ o. o or_else first_some resumption seen_all or_else for_one dispatch (free_one seen_all)
-        or_else first_some (finishing seen_all) (J.rules.finishes ++ more) or_else behind_finishes J.rules seen_all) is
-    by_first (inr it) = ap (λ o. o or_else first_some resumption seen_all or_else for_one dispatch (free_one seen_all)
-        or_else first_some (finishing seen_all) (J.rules.finishes ++ more) or_else behind_finishes J.rules seen_all) it.0
-        ∙ by_second (or_split (first_some resumption seen_all) _ m it.1)
+  beside_same beside = same_behind (first_some completion seen_all) (first_some resumption seen_all)
+      (for_one dispatch (free_one seen_all)) (first_some (finishing seen_all) (J.rules.finishes ++ more))
+      (first_some (finishing seen_all) J.rules.finishes) (behind_finishes J.rules seen_all)
+      (λ c r d. by_own (first_some (finishing seen_all) J.rules.finishes) refl
+      (subst (IsBeside n) (behind_none (first_some completion seen_all) (first_some resumption seen_all)
+      (for_one dispatch (free_one seen_all)) _ c r d) beside)) where
+        by_own : (o : Option Move) → first_some (finishing seen_all) J.rules.finishes ≡ o
+            → IsBeside n (o or_else behind_finishes J.rules seen_all)
+            → first_some (finishing seen_all) (J.rules.finishes ++ more) ≡ o
+        by_own (Some m) is beside = first_stays (finishing seen_all) J.rules.finishes more m is
+        by_own None is beside = absurd (behind_not (behind_finishes J.rules seen_all) refl beside)
 
 -- ---- of a mark
 
@@ -388,7 +372,8 @@ module _ (processors : ℕ) (J : Instance) (valid : IsValid J) (some : 1 ≤ pro
               (not_due processors J valid some s keeps p.task
               (subst (λ (z : many.Step). z.before.clock < mark → Less p.task.number p.task.had z.before) run.0
               (less y (inl refl)) low)))
-          by_kind (inr it) = beside_same processors J valid some s keeps it.1 p.task.number (finish_now p.task ∷ []) it.2
+          by_kind (inr it) =
+              beside_same processors J valid some s keeps it.1 p.task.number (finish_now p.task ∷ []) it.2
 
     -- so what is settled stays
     pub stays_at_mark : Begins (settled_steps processors J mark)

@@ -334,8 +334,9 @@ module _ (processors : ℕ) (J : Instance) (valid : IsValid J) (some : 1 ≤ pro
   had_less [] s keeps run member there all =
       ((λ low. absurd (omega (arith, low, there)), λ here. member), λ x none. absurd none)
   had_less (x ∷ xs) s keeps run member there all =
-      let rest = had_less xs (after s (open_step processors J.rules s)) (open_kept processors J valid some J.rules s keeps)
-      run.2 (subst (λ (z : many.Step). IsMember p (behind (after z.before z.move) xs).jobs) run.0 member)
+      let rest = had_less xs (after s (open_step processors J.rules s))
+      (open_kept processors J valid some J.rules s keeps) run.2
+      (subst (λ (z : many.Step). IsMember p (behind (after z.before z.move) xs).jobs) run.0 member)
       (subst (λ (z : many.Step). (behind (after z.before z.move) xs).clock ≡ mark) run.0 there)
       (λ y y_member. all y (inr y_member)) in
       let here = came_before s keeps (subst (IsEarlyOrBeside mark p.task.number) run.0 (all x (inl refl))) rest.0 in
