@@ -4,4 +4,6 @@ pub mod Settling
 pub mod Prefixes
 pub mod Onlines
 pub mod Finishes
+pub mod MarkTick
 pub mod AtMark
+pub mod Meeting

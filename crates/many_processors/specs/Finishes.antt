@@ -1,13 +1,16 @@
 -- Lists of finishes, by the completions that they lead to on several processors.
-use Rattle.std.specs.Prelude.{◌≡◌, ◌<◌, ℕ, List, Option, Some, None}
+use Rattle.std.specs.Prelude.{◌≡◌, ◌<◌, ◌⊎◌, ◌==◌, ℕ, List, Bool, true, false, not, Option, Some, None}
+use Rattle.dover_model.specs.declared.events.Event.{Event}
+use Rattle.dover_model.specs.declared.events.Event.TheVariants.{Complete, Run}
 use Rattle.dover_model.specs.declared.events.Role.TheVariants.{Running}
 use Rattle.dover_model.specs.declared.events.Version.{Version}
 use Rattle.dover_model.specs.Finishes.{Finish}
 use Rattle.dover_model.specs.Instance.{Instance}
+use Rattle.dover_model.specs.Settled.{tick_of_event}
 use Rattle.dover_model.specs.Sound.{Each, EachTwo, IsMember}
 use Rattle.many_processors.specs.State.{Placed, State}
 use Rattle.many_processors.specs.Step.{Move, all_seen, finishing, first_some}
-use Rattle.many_processors.specs.Settled.{settled_steps, settled_state}
+use Rattle.many_processors.specs.Settled.{settled_steps, settled_state, settled}
 
 -- the completion of the job that has come to the first of these finishes that is due, if one is
 abbrev pub due_completion : ℕ → Version → List Finish → State → Option Move
@@ -38,8 +41,16 @@ CompleteOne processors version finishes s =
     let completes : Finish → Option Move = finishing (all_seen processors version s) in
     EachTwo (λ f g. (m n : Move) → completes f ≡ Some m → completes g ≡ Some n → m ≡ n) finishes
 
--- the job runs at the barrier of the mark, and all settled steps were taken before the mark's tick
+-- the printed step completes a job, or gives a free processor to another job than number n
+abbrev pub is_beside : ℕ → Event → Bool
+is_beside n (Complete at k) = true
+is_beside n (Run at k) = not (k == n)
+is_beside n _ = false
+
+-- the job runs at the barrier of the mark, and of the mark's tick nothing was printed but completions and other jobs
+-- that got a free processor
 pub record RunsAtMark (processors : ℕ) (J : Instance) (mark : ℕ) (p : Placed) : Type 0 where
   pub member : IsMember p (settled_state processors J mark).jobs
   pub runs : p.task.role ≡ Running
-  pub before : Each (λ x. x.before.clock < mark) (settled_steps processors J mark)
+  pub before : Each (λ x. (tick_of_event x.1 < mark) ⊎ (is_beside p.task.number x.1 ≡ true))
+      (settled processors J mark)

@@ -31,6 +31,12 @@ is_preempt_of n (Prints q e) = processor.is_preempt_of n (single.Prints e)
 is_preempt_of n (Waits other) = false
 is_preempt_of n Ticks = false
 
+-- job n takes a processor
+abbrev pub is_take_of : ℕ → Move → Bool
+is_take_of n (Prints q e) = processor.is_take_of n (single.Prints e)
+is_take_of n (Waits other) = false
+is_take_of n Ticks = false
+
 -- a job begins or goes on at a free processor
 abbrev pub is_run : Move → Bool
 is_run (Prints q e) = processor.is_run (single.Prints e)

@@ -12,7 +12,7 @@ ghost use Rattle.many_processors.specs.Run.{run, ran, printed, printed_on, compl
 ghost use Rattle.many_processors.specs.Schedules.{IsFor, is_named, worth};
 ghost use Rattle.many_processors.specs.Books.{given_at};
 ghost use Rattle.many_processors.specs.Ticks.{SomeRunsOn, AreDifferent, FewAtOnce, takes_or_abandons};
-ghost use Rattle.many_processors.specs.Ticks.{is_preempt_of, is_run, is_complete};
+ghost use Rattle.many_processors.specs.Ticks.{is_preempt_of, is_take_of, is_run, is_complete};
 ghost use Rattle.many_processors.specs.Observed.{observed, end_state};
 
 /// What holds of each run on several processors. Each clause is a law, whose remark stands above. It does nothing.
@@ -33,6 +33,10 @@ pub fn laws_of_runs()
     // Over a run a job preempts once at most.
     ensures preempts_once { (processors : ℕ) (J : Instance) (n : ℕ) → 1 ≤ processors → IsValid J
         → count_by (λ x. is_preempt_of n x.move) (run processors J) ≤ 1 }
+
+    // Over a run a job takes a processor once at most.
+    ensures takes_once { (processors : ℕ) (J : Instance) (n : ℕ) → 1 ≤ processors → IsValid J
+        → count_by (λ x. is_take_of n x.move) (run processors J) ≤ 1 }
 
     // As often as a job is completed, one begins or goes on at a free processor.
     ensures as_many_runs { (processors : ℕ) (J : Instance) → 1 ≤ processors → IsValid J

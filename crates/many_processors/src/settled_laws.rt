@@ -3,7 +3,7 @@ ghost use Rattle.std.specs.Prelude.{◌≡◌, ◌≤◌, ◌<◌, ℕ, List, []
 ghost use Rattle.dover_model.specs.declared.events.Role.TheVariants.{Fresh};
 ghost use Rattle.dover_model.specs.Common.{Rules, Instance, IsValid, with_jobs, with_finishes, JobFacts, Finish};
 ghost use Rattle.dover_model.specs.Common.{Begins};
-ghost use Rattle.dover_model.specs.Common.{Each, HaveTheSame, finish_now, known_at};
+ghost use Rattle.dover_model.specs.Common.{Each, HaveTheSame, finish_now, known_at, bare};
 ghost use Rattle.dover_model.specs.Instance as instances;
 ghost use Rattle.many_processors.specs.State.{Placed, State, opening};
 ghost use Rattle.dover_model.specs.declared.events.Event.TheVariants.{Complete};
@@ -14,9 +14,10 @@ ghost use Rattle.many_processors.specs.Settled.{waits_for_mark, with_later, AllC
 ghost use Rattle.many_processors.specs.Settled.{settled_state, IsBarrier, IsSettledRun};
 ghost use Rattle.many_processors.specs.Finishes.{IsDueAlike, AreDueAlike, NoneIsDue, AreYetToCome, CompleteOne};
 ghost use Rattle.many_processors.specs.Finishes.{RunsAtMark};
-ghost use Rattle.many_processors.specs.Online.{printed_up_to};
+ghost use Rattle.many_processors.specs.Online.{printed_up_to, finishes_up_to};
 
-/// What holds of what is settled on several processors. Each clause is a law, whose remark stands above. It does nothing.
+/// What holds of what is settled on several processors. Each clause is a law, whose remark stands above. It does
+/// nothing.
 pub fn laws_of_settled_steps()
     // A settled step is the same, whatever comes at the mark or later.
     ensures same_step { (processors : ℕ) (rules : Rules) (s : State) (more : List Placed) (mark : ℕ)
@@ -51,9 +52,16 @@ pub fn laws_of_settled_steps()
         → IsValid (with_jobs J more) → Each (λ j. mark ≤ j.release) more
         → Begins (settled processors J mark) (printed_on processors (with_jobs J more)) }
 
-    // What is printed up to a tick depends on the jobs that are released by then alone.
+    // Under the same finishes, what is printed up to a tick depends on the jobs that are released by then alone.
     ensures on_line { (processors t : ℕ) (J K : Instance) → 1 ≤ processors → IsValid J → IsValid K
         → J.rules ≡ K.rules → known_at t J.jobs ≡ known_at t K.jobs
+        → printed_up_to processors t J ≡ printed_up_to processors t K }
+
+    // Under whatever finishes, it depends on these jobs, and on the finishes by which the run completes jobs by then,
+    // alone.
+    ensures on_line_with_finishes { (processors t : ℕ) (J K : Instance) → 1 ≤ processors → IsValid J → IsValid K
+        → bare J.rules ≡ bare K.rules → known_at t J.jobs ≡ known_at t K.jobs
+        → finishes_up_to processors t J ≡ finishes_up_to processors t K
         → printed_up_to processors t J ≡ printed_up_to processors t K }
 
     // Where no running job has come to one of some further finishes by what is settled, that begins what is settled at
@@ -89,8 +97,8 @@ pub fn laws_of_settled_steps()
         → HaveTheSame J.rules.finishes finishes → CompleteOne processors J.rules.version J.rules.finishes s
         → IsDueAlike processors J finishes s }
 
-    // A job that runs at the mark, where all that is settled was taken before its tick, may finish there: what is
-    // settled stays, and its completion is next, on its processor.
+    // A job that runs at the mark may finish there, where of the mark's tick nothing was printed but completions and
+    // other jobs that got a free processor: what is settled stays, and its completion is next, on its processor.
     ensures finish_at_mark_stays { (processors : ℕ) (J : Instance) (mark : ℕ) (p : Placed) → 1 ≤ processors → IsValid J
         → RunsAtMark processors J mark p → Begins (settled_steps processors J mark)
         (settled_steps processors (with_finishes J (finish_now p.task ∷ [])) mark) }

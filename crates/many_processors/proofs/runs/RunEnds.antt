@@ -43,7 +43,7 @@ use Rattle.many_processors.proofs.steps.Stepping.{real, same_job}
 use Rattle.many_processors.proofs.steps.Turns.{which, running_job, all_quiet, of_tasks, step_kept, opening_kept}
 use Rattle.many_processors.proofs.runs.EachStep.{no_completion, tick_quiet, open_goes_on}
 use Rattle.many_processors.proofs.runs.Weighing.{weighs, weighs_one, Lasting, Falls, goes_on, fits_in, on_slack}
-use Rattle.many_processors.proofs.runs.Weighing.{run_falls}
+use Rattle.many_processors.proofs.runs.Weighing.{run_falls, IsSpent, spent_as}
 use Rattle.many_processors.proofs.runs.Weighing.{off_falls, done_falls, preempt_falls, take_falls, ticks_last}
 
 module _ (processors : ℕ) (J : Instance) (valid : IsValid J) (some : 1 ≤ processors) (s : State)
@@ -51,15 +51,16 @@ module _ (processors : ℕ) (J : Instance) (valid : IsValid J) (some : 1 ≤ pro
   abbrev rules : Rules
   rules = J.rules
 
-  -- after the step less can come
+  -- after the step less can come, and a job that can take no more still can't
   abbrev pub Down : State → Type 0
   Down t = (more : ℕ) × Lasting J.rules.finishes processors t more
       × ((due - t.clock) + weighs t.clock more t.jobs + 1 ≤ (due - s.clock) + weighs s.clock w s.jobs)
+      × ((n : ℕ) → IsSpent n s w → IsSpent n t more)
 
   down : (jobs : List Placed) (pressed : Bool)
       → Falls J.rules.finishes processors s (record { clock = s.clock; jobs = jobs; pressed = pressed }) w
       → Down (record { clock = s.clock; jobs = jobs; pressed = pressed })
-  down jobs pressed falls = (falls.0, falls.1, omega (arith, falls.2))
+  down jobs pressed falls = (falls.0, falls.1, omega (arith, falls.2), falls.3)
 
   one_job : (p u : Placed) → IsMember p s.jobs → IsMember u s.jobs → p.task.number ≡ u.task.number → p ≡ u
   one_job = same_job processors J valid s keeps
@@ -112,7 +113,7 @@ module _ (processors : ℕ) (J : Instance) (valid : IsValid J) (some : 1 ≤ pro
         subst (λ (u : Task). Down (after s (Prints i (Abandon s.clock u.number)))) z.2
         (down _ _ (off_falls processors J s keeps J.rules.finishes w it one_job z.0 z.1 Gone _
         (passes is_privileged z.0.task Waiting false is_w refl) (λ e. absurd (let f : Gone ≡ Running = e in cc))
-        (λ e. never e) (omega (arith, weight_of steps_scale s.clock w z.0.task Waiting is_w))))
+        (λ e. never e) (omega (arith, weight_of steps_scale s.clock w z.0.task Waiting is_w)) (λ spent. tt)))
 
     gone_down : (m : single.Move) → Deed J.rules.ratio (seen_from i s) (single.Prints (End 0)) m → cases.is_gone m
         ≡ true
@@ -163,14 +164,15 @@ module _ (processors : ℕ) (J : Instance) (valid : IsValid J) (some : 1 ≤ pro
           arith,
           weight_of steps_scale s.clock w x.0.task Fresh is_fresh,
           one_most (nat_lt s.clock (latest_start x.0.task) || nat_lt w x.0.task.job.value),
-        ))))
+        )) (λ spent. absurd (spent_as s.clock w x.0.task Fresh is_fresh spent))))
     deed_down m (Arrived c member comes now first stale busy free) kind ends decided =
         let x = seen_member i s.jobs c Coming (λ e. cc) comes member in
         let is_coming : x.0.task.role ≡ Coming = ap (λ (u : Task). u.role) x.2 ∙ comes in
         subst (λ n. Down (after s (Prints i (Release n c.job)))) (ap (λ (u : Task). u.number) x.2)
         (down _ _ (off_falls processors J s keeps J.rules.finishes w it one_job x.0 x.1 Fresh _
         (passes is_privileged x.0.task Coming false is_coming refl) (λ e. absurd (let f : Fresh ≡ Running = e in cc))
-        (λ e. never e) (omega (arith, weight_of steps_scale s.clock w x.0.task Coming is_coming))))
+        (λ e. never e) (omega (arith, weight_of steps_scale s.clock w x.0.task Coming is_coming))
+        (λ spent. absurd (spent_as s.clock w x.0.task Coming is_coming spent))))
     deed_down m (Taken r x member runs_r some_r x_member waits now stale heavy) kind ends (inl is) = never is
     deed_down m (Taken r x member runs_r some_r x_member waits now stale heavy) kind ends (inr decided) =
         by_least decided.1 where
@@ -330,7 +332,7 @@ module _ (processors : ℕ) (J : Instance) (valid : IsValid J) (some : 1 ≤ pro
       let first : Quiet (seen_from 0 s) = all_quiet processors J valid some J.rules s keeps quiet 0
       (omega (arith, some)) in
       let last = ticks_last processors J s keeps J.rules.finishes w it one_job some_left first in
-      (0, last.0, omega (arith, last.1, early refl))
+      (0, last.0, omega (arith, last.1, early refl), last.2)
 
   step_case_here : StepCase true J.rules s all (step processors J.rules s)
   step_case_here = step_case J.rules s all (each_sees processors J.rules.version s)

@@ -19,7 +19,7 @@ use Rattle.dover_model.proofs.lists.Members.{map_member, sum_le, sum_map, sum_ze
 use Rattle.dover_model.proofs.lists.Members.{term_le_sum}
 use Rattle.dover_model.proofs.runs.Potential.{steps_scale, one_most, weight_less, weight_of, tick_weight}
 use Rattle.dover_model.proofs.steps.Moves.{active_slack}
-use Rattle.dover_model.proofs.steps.Roles.{passes, is_privileged_role}
+use Rattle.dover_model.proofs.steps.Roles.{passes, is_privileged_role, is_running_role}
 use Rattle.dover_model.proofs.steps.Ticking.{Quiet}
 use Rattle.many_processors.specs.State.{Placed, State, seen_by, seen_from}
 use Rattle.many_processors.specs.Step.{placed_after, in_role, placed_on, is_own_of, ticked, with_tick, after, Ticks}
@@ -46,10 +46,25 @@ pub record Lasting (finishes : List Finish) (processors : ℕ) (s : State) (w : 
   pub ready : Each (λ p. is_ready_behind p.task ≡ true → is_due finishes p.task ≡ false) s.jobs
   pub going : (w ≡ 0) ⊎ Each (λ p. p.task.role ≡ Running → is_finished finishes p.task ≡ false) s.jobs
 
--- after a step it is so with less weight
+-- a job of this role can take no more, where a take has to beat w: it is at its latest start or past it, and where it
+-- waits, it is worth w at most
+abbrev pub SpentIn : Role → (clock w : ℕ) → Task → Type 0
+SpentIn Coming clock w t = ⊥
+SpentIn Fresh clock w t = ⊥
+SpentIn Waiting clock w t = (latest_start t ≤ clock) × (t.job.value ≤ w)
+SpentIn Held clock w t = latest_start t ≤ clock
+SpentIn Running clock w t = latest_start t ≤ clock
+SpentIn Done clock w t = Unit {0}
+SpentIn Gone clock w t = Unit {0}
+
+-- nor can job n
+abbrev pub IsSpent : ℕ → State → ℕ → Type 0
+IsSpent n s w = Each (λ p. p.task.number ≡ n → SpentIn p.task.role s.clock w p.task) s.jobs
+
+-- after a step it is so with less weight, and a job that can take no more still can't
 abbrev pub Falls : List Finish → (processors : ℕ) → State → State → ℕ → Type 0
 Falls finishes processors s t w = (more : ℕ) × Lasting finishes processors t more
-    × (weighs t.clock more t.jobs + 1 ≤ weighs s.clock w s.jobs)
+    × (weighs t.clock more t.jobs + 1 ≤ weighs s.clock w s.jobs) × ((n : ℕ) → IsSpent n s w → IsSpent n t more)
 
 -- ---- tests as numbers
 
@@ -67,6 +82,36 @@ runs_less clock w t role (inr (inl e)) = subst (λ r. weight_in steps_scale Runn
     (omega (arith, or_more (nat_lt clock (latest_start t)) (nat_lt w t.job.value)))
 runs_less clock w t role (inr (inr e)) = subst (λ r. weight_in steps_scale Running clock w t + 1
     ≤ weight_in steps_scale r clock w t) (sym e) (omega (arith, one_most (nat_lt clock (latest_start t))))
+
+-- of a job of a known role
+pub spent_as : (clock w : ℕ) (t : Task) (role : Role) → t.role ≡ role → SpentIn t.role clock w t
+    → SpentIn role clock w t
+spent_as clock w t role e spent = subst (λ r. SpentIn r clock w t) e spent
+
+-- where a take has to beat more, it stays so
+spent_more : (role : Role) (clock w more : ℕ) (t : Task) → w ≤ more → SpentIn role clock w t
+    → SpentIn role clock more t
+spent_more Waiting clock w more t low spent = (spent.0, omega (arith, low, spent.1))
+spent_more Coming clock w more t low spent = absurd spent
+spent_more Fresh clock w more t low spent = absurd spent
+spent_more Held clock w more t low spent = spent
+spent_more Running clock w more t low spent = spent
+spent_more Done clock w more t low spent = tt
+spent_more Gone clock w more t low spent = tt
+
+-- what becomes of a job is of its number, and can take no more where the job can't
+abbrev StaysSpent : (clock w more : ℕ) → Placed → Placed → Type 0
+StaysSpent clock w more p u = (u.task.number ≡ p.task.number)
+    × (SpentIn p.task.role clock w p.task → SpentIn u.task.role clock more u.task)
+
+-- so it is with all jobs
+all_spent : (s : State) (w more clock : ℕ) (h : Placed → Placed) (pressed : Bool)
+    → Each (λ p. (((h p).task.number ≡ p.task.number)
+    × (SpentIn p.task.role s.clock w p.task → SpentIn (h p).task.role clock more (h p).task))) s.jobs
+    → (n : ℕ) → IsSpent n s w → IsSpent n (record { clock = clock; jobs = map h s.jobs; pressed = pressed }) more
+all_spent s w more clock h pressed each n spent = on_map h
+    (λ p. p.task.number ≡ n → SpentIn p.task.role clock more p.task) s.jobs
+    (λ p member same. (each p member).1 (spent p member (sym (each p member).0 ∙ same)))
 
 -- what isn't at its end
 pub goes_on : (finishes : List Finish) (t : Task) → 1 ≤ left t → is_due finishes t ≡ false → is_finished finishes t
@@ -152,8 +197,9 @@ module _ (processors : ℕ) (J : Instance) (s : State) (keeps : Keeps processors
         → Each (λ p. (h p).task.role ≡ Running → ((h p).task ≡ p.task) ⊎ (is_finished finishes (h p).task ≡ false))
         s.jobs
         → weighs s.clock w (map h s.jobs) + 1 ≤ weighs s.clock w s.jobs
+        → Each (λ p. StaysSpent s.clock w w p (h p)) s.jobs
         → Falls finishes processors s (record { clock = s.clock; jobs = map h s.jobs; pressed = pressed }) w
-    grows h pressed same own ready going less = (
+    grows h pressed same own ready going less spent = (
       w,
       record {
         low = λ q q_low. omega (arith, it.low q q_low, own_grows q h s.jobs same (own q));
@@ -161,6 +207,7 @@ module _ (processors : ℕ) (J : Instance) (s : State) (keeps : Keeps processors
         going = by_going it.going;
       },
       less,
+      all_spent s w w s.clock h pressed spent,
     ) where
       by_going : (w ≡ 0) ⊎ Each (λ p. p.task.role ≡ Running → is_finished finishes p.task ≡ false) s.jobs
           → (w ≡ 0) ⊎ Each (λ p. p.task.role ≡ Running → is_finished finishes p.task ≡ false) (map h s.jobs)
@@ -217,18 +264,25 @@ module _ (processors : ℕ) (J : Instance) (s : State) (keeps : Keeps processors
           (one_falls (moved (placed_on i)) w x member (moved_other (placed_on i))
           (subst (λ u. weighs_one s.clock w u + 1 ≤ weighs_one s.clock w x) (sym (moved_x (placed_on i)))
           (runs_less s.clock w x.task x.task.role role)))
+          (moved_parts (placed_on i) (StaysSpent s.clock w w) (refl, from_role role) (λ p m. (refl, λ h. h))) where
+            from_role : (x.task.role ≡ Held) ⊎ ((x.task.role ≡ Waiting) ⊎ (x.task.role ≡ Fresh))
+                → SpentIn x.task.role s.clock w x.task → latest_start x.task ≤ s.clock
+            from_role (inl e) spent = spent_as s.clock w x.task Held e spent
+            from_role (inr (inl e)) spent = (spent_as s.clock w x.task Waiting e spent).0
+            from_role (inr (inr e)) spent = absurd (spent_as s.clock w x.task Fresh e spent)
 
       -- it is in another role, on no processor before and after
       pub off_falls : (role : Role) (pressed : Bool) → is_privileged x.task ≡ false
           → (role ≡ Running → ⊥) → (is_ready_behind (with_role x.task role) ≡ true → is_due finishes x.task ≡ false)
           → weight_in steps_scale role s.clock w (with_role x.task role) + 1
           ≤ weight_in steps_scale x.task.role s.clock w x.task
+          → (SpentIn x.task.role s.clock w x.task → SpentIn role s.clock w (with_role x.task role))
           → Falls finishes processors s (record {
             clock = s.clock;
             jobs = map (λ p. cond (eqb p.task.number x.task.number) (in_role p role) p) s.jobs;
             pressed = pressed;
           }) w
-      off_falls role pressed off not_running ready less = grows (moved (λ p. in_role p role)) pressed
+      off_falls role pressed off not_running ready less spends = grows (moved (λ p. in_role p role)) pressed
           (moved_parts (λ p. in_role p role) (λ p u. u.task.job ≡ p.task.job) refl (λ p m. refl))
           (λ q. moved_parts (λ p. in_role p role) (λ p u. is_own_of q p ≡ true → is_own_of q u ≡ true)
           (λ own. never (sym (off_own q x off) ∙ own)) (λ p m own. own))
@@ -239,6 +293,7 @@ module _ (processors : ℕ) (J : Instance) (s : State) (keeps : Keeps processors
           (λ p m e. inl refl))
           (one_falls (moved (λ p. in_role p role)) w x member (moved_other (λ p. in_role p role))
           (subst (λ u. weighs_one s.clock w u + 1 ≤ weighs_one s.clock w x) (sym (moved_x (λ p. in_role p role))) less))
+          (moved_parts (λ p. in_role p role) (StaysSpent s.clock w w) (refl, spends) (λ p m. (refl, λ h. h)))
 
       -- it is done
       pub done_falls : (pressed : Bool) → x.task.role ≡ Running → is_finished finishes x.task ≡ true
@@ -269,6 +324,8 @@ module _ (processors : ℕ) (J : Instance) (s : State) (keeps : Keeps processors
           one_falls (moved (λ p. in_role p Done)) w x member (moved_other (λ p. in_role p Done))
               (subst (λ u. weighs_one s.clock w u + 1 ≤ weighs_one s.clock w x) (sym (moved_x (λ p. in_role p Done)))
               (omega (arith, weight_of steps_scale s.clock w x.task Running runs))),
+          all_spent s w w s.clock (moved (λ p. in_role p Done)) pressed
+              (moved_parts (λ p. in_role p Done) (StaysSpent s.clock w w) (refl, λ h. tt) (λ p m. (refl, λ h. h))),
         )
 
     -- ---- two jobs change
@@ -307,7 +364,10 @@ module _ (processors : ℕ) (J : Instance) (s : State) (keeps : Keeps processors
           (λ e. never e) (λ e. y_goes) (λ p m e. it.ready p m e))
           (held_parts (λ p u. u.task.role ≡ Running → (u.task ≡ p.task) ⊎ (is_finished finishes u.task ≡ false))
           (λ e. inr x_goes) (λ e. absurd (let f : Held ≡ Running = e in cc)) (λ p m e. inl refl))
-          (two_fall held_by w w x y x_member y_member falls) where
+          (two_fall held_by w w x y x_member y_member falls)
+          (held_parts (StaysSpent s.clock w w)
+          (refl, λ spent. absurd (spent_as s.clock w x.task Fresh fresh spent))
+          (refl, λ spent. spent_as s.clock w y.task Running y_runs spent) (λ p m. (refl, λ h. h))) where
             falls : Each (λ p. weighs_one s.clock w (held_by p) + (one_if (eqb p.task.number x.task.number)
                 + one_if (eqb p.task.number x.task.number))
                 ≤ weighs_one s.clock w p + one_if (eqb p.task.number y.task.number)) s.jobs
@@ -489,7 +549,18 @@ module _ (processors : ℕ) (J : Instance) (s : State) (keeps : Keeps processors
                 (λ p member not_own e. all_go p member e)));
           },
           two_fall displaced_by w lost x y x_member y_member falls,
+          all_spent s w lost s.clock displaced_by pressed (take_parts (StaysSpent s.clock w lost)
+              (refl, λ spent. (spent_as s.clock w x.task Waiting waits spent).0)
+              (λ p member own. (refl, own_spent p member own (is_privileged_role p.task (on_it p own).0)))
+              (λ p member not_own. (refl, spent_more p.task.role s.clock w lost p.task (it.low i i_low)))),
         ) where
+          own_spent : (p : Placed) → IsMember p s.jobs → is_own_of i p ≡ true
+              → (p.task.role ≡ Running) ⊎ (p.task.role ≡ Held) → SpentIn p.task.role s.clock w p.task
+              → (latest_start p.task ≤ s.clock) × (p.task.job.value ≤ lost)
+          own_spent p member own (inl e) spent =
+              (spent_as s.clock w p.task Running e spent, own_value p member own)
+          own_spent p member own (inr e) spent = (spent_as s.clock w p.task Held e spent, own_value p member own)
+
           own_due : (p : Placed) → IsMember p s.jobs → (p.task.role ≡ Running) ⊎ (p.task.role ≡ Held)
               → is_due finishes p.task ≡ false
           own_due p member (inl e) = all_due p member e
@@ -532,6 +603,7 @@ module _ (processors : ℕ) (J : Instance) (s : State) (keeps : Keeps processors
 
       pub ticks_last : Lasting finishes processors (after s Ticks) 0
           × (weighs (s.clock + 1) 0 (map ticked s.jobs) ≤ weighs s.clock w s.jobs)
+          × ((n : ℕ) → IsSpent n s w → IsSpent n (after s Ticks) 0)
       ticks_last = (
         record {
           low = λ q q_low. omega arith;
@@ -549,8 +621,37 @@ module _ (processors : ℕ) (J : Instance) (s : State) (keeps : Keeps processors
               (λ runs. some_left p member (passes is_privileged p.task Running true runs refl))
               (on_slack p member) (had_most s keeps.sound p member))),
         ),
+        all_spent s w 0 (s.clock + 1) ticked s.pressed
+            (λ p member. tick_spent p member (is_running p.task) refl),
       ) where
         early : Each (λ p. p.task.role ≡ Waiting → latest_start p.task ≡ s.clock → ⊥) s.jobs
         early p member waits = quiet.early p.task (subst (λ t. IsMember t (map (seen_by 0) s.jobs))
             (off_seen 0 p (passes is_privileged p.task Waiting false waits refl))
             (map_member (seen_by 0) s.jobs p member)) waits
+
+        tick_spent : (p : Placed) → IsMember p s.jobs → (b : Bool) → is_running p.task ≡ b
+            → ((cond b (record { task = with_tick p.task; owner = p.owner }) p).task.number ≡ p.task.number)
+            × (SpentIn p.task.role s.clock w p.task
+            → SpentIn (cond b (record { task = with_tick p.task; owner = p.owner }) p).task.role (s.clock + 1) 0
+            (cond b (record { task = with_tick p.task; owner = p.owner }) p).task)
+        tick_spent p member true e = (refl, λ spent. runs_spent (is_running_role p.task e) spent) where
+          runs_spent : p.task.role ≡ Running → SpentIn p.task.role s.clock w p.task
+              → SpentIn p.task.role (s.clock + 1) 0 (with_tick p.task)
+          runs_spent runs spent = subst (λ r. SpentIn r (s.clock + 1) 0 (with_tick p.task)) (sym runs) (omega (
+            arith,
+            spent_as s.clock w p.task Running runs spent,
+            some_left p member (passes is_privileged p.task Running true runs refl),
+            on_slack p member (passes is_privileged p.task Running true runs refl),
+          ))
+        tick_spent p member false e = (refl, λ spent. by_role p.task.role refl spent) where
+          by_role : (role : Role) → p.task.role ≡ role → SpentIn role s.clock w p.task
+              → SpentIn role (s.clock + 1) 0 p.task
+          by_role Coming is spent = absurd spent
+          by_role Fresh is spent = absurd spent
+          by_role Waiting is spent =
+              let fits = fits_in Waiting p member is in
+              absurd (early p member is (omega (arith, spent.0, fits.0, fits.2)))
+          by_role Held is spent = omega (arith, spent)
+          by_role Running is spent = omega (arith, spent)
+          by_role Done is spent = tt
+          by_role Gone is spent = tt

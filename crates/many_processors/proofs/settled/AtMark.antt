@@ -1,168 +1,48 @@
--- A job that runs at the barrier of a mark may finish there, where all that is settled was taken before its tick.
+-- A job that runs at the barrier of a mark may finish there, where of the mark's tick nothing is settled but
+-- completions, and other jobs that got a free processor.
 use Rattle.std.proofs.Common.{◌≡◌, ℕ, ◌+◌, ◌≤◌, ◌<◌, ◌⊎◌, inl, inr, List, [], ◌∷◌, ◌++◌, map, refl, sym, ap, ◌∙◌, subst}
-use Rattle.std.proofs.Common.{Bool, true, false, cond, arith, ◌&&◌, ◌==◌, eqb, eqb-true, eq-eqb, nat_lt, lt-ltb, Option}
-use Rattle.std.proofs.Common.{Some, None}
+use Rattle.std.proofs.Common.{Bool, true, false, cond, arith, ◌&&◌, ◌==◌, eqb-true, eq-eqb, nat_lt, lt-ltb}
+use Rattle.std.proofs.Common.{ltb-true, ltb-false, Option, Some, None}
 use Rattle.std.specs.Bool.{then_some}
 use Rattle.std.proofs.lemmas.Bool.{and_parts, and_from}
 use Rattle.dover_model.specs.declared.events.Event.TheVariants.{Run, Preempt, Take, Complete, Abandon, End, Release}
-use Rattle.dover_model.specs.declared.events.Role.TheVariants.{Coming, Running, Waiting}
+use Rattle.dover_model.specs.declared.events.Role.{Role}
+use Rattle.dover_model.specs.declared.events.Role.TheVariants.{Coming, Fresh, Waiting, Held, Running, Done, Gone}
 use Rattle.dover_model.specs.declared.events.Task.{Task}
 use Rattle.dover_model.specs.Finishes.{Finish, has_come_to}
 use Rattle.dover_model.specs.Common.{Instance, IsValid, IsMember, Each, Begins, with_finishes, finish_now}
-use Rattle.dover_model.specs.Common.{Rules, having, is_running, is_privileged, to_come}
+use Rattle.dover_model.specs.Common.{Rules, having, is_running, is_privileged, is_fresh, is_heavy, to_come}
+use Rattle.dover_model.specs.Step as single
 use Rattle.dover_model.proofs.lists.Tests.{never, none_is_some}
 use Rattle.dover_model.proofs.lists.Members.{map_member, some_same, found, on_map}
 use Rattle.dover_model.proofs.settled.Settling.{at_barrier}
-use Rattle.dover_model.proofs.finishes.Further.{map_back}
 use Rattle.dover_model.proofs.steps.Kept.{come_coming}
 use Rattle.dover_model.proofs.steps.Roles.{passes, is_running_role}
-use Rattle.dover_model.proofs.bound.Counting.{one}
 use Rattle.many_processors.specs.State.{Placed, State, opening, unplaced, seen_by}
 use Rattle.many_processors.specs.Step.{Move, Prints, Waits, Ticks, Seen}
 use Rattle.many_processors.specs.Step.{all_seen, first_some, finishing, finish_on, ◌or_try◌}
-use Rattle.many_processors.specs.Step.{open_step, after, placed_after, in_role, ticked, seen, numbers_from, ◌or_else◌}
+use Rattle.many_processors.specs.Step.{open_step, after, seen, numbers_from, ◌or_else◌}
 use Rattle.many_processors.specs.Step.{completion, resumption, dispatch, decision, deciding, arrival, front, alarm}
-use Rattle.many_processors.specs.Step.{free_one, least_valued, for_one}
+use Rattle.many_processors.specs.Step.{free_one, least_valued, for_one, placed}
 use Rattle.many_processors.specs.Run as many
 use Rattle.many_processors.specs.Sound.{Keeps}
 use Rattle.many_processors.specs.Settled.{waits_for_mark, settled_steps, settled_state, IsSettledRun}
 use Rattle.many_processors.specs.Finishes.{NoneIsDue, RunsAtMark}
-use Rattle.many_processors.proofs.books.TickSteps.{tick_plain}
-use Rattle.many_processors.proofs.settled.Finishes.{behind, further_begins}
+use Rattle.many_processors.proofs.settled.Finishes.{same_begins, same_open, further_alike}
+use Rattle.many_processors.proofs.settled.MarkTick.{Less, Came, NoneFresh, IsBeside, IsEarlyOrBeside, all_are, said}
+use Rattle.many_processors.proofs.settled.MarkTick.{had_less}
 use Rattle.many_processors.proofs.settled.Settling.{AtBarrier, settled_is_run, settled_at_barrier}
 use Rattle.many_processors.proofs.steps.Cases.{answered, unanswered, try_none, for_some, completion_acts, is_run}
-use Rattle.many_processors.proofs.steps.Cases.{resumption_runs, dispatch_runs}
+use Rattle.many_processors.proofs.steps.Cases.{resumption_runs, dispatch_runs, or_split, deciding_member}
 use Rattle.many_processors.proofs.steps.Placing.{own_running, seen_member, seen_own}
-use Rattle.many_processors.proofs.steps.Seeing.{below_numbers}
-use Rattle.many_processors.proofs.steps.Stepping.{event_task, same_job}
+use Rattle.many_processors.proofs.steps.Seeing.{below_numbers, each_sees}
+use Rattle.many_processors.proofs.steps.Stepping.{same_job}
 use Rattle.many_processors.proofs.steps.Turns.{which, running_job, open_kept, opening_kept}
-
--- each job of this number has had less
-abbrev Less : ℕ → ℕ → State → Type 0
-Less n h s = Each (λ p. p.task.number ≡ n → p.task.had + 1 ≤ h) s.jobs
-
--- of a change that leaves numbers, and after which no job has had less
-less_mapped : (n h : ℕ) (jobs : List Placed) (g : Placed → Placed)
-    → ((p : Placed) → ((g p).task.number ≡ p.task.number) × (p.task.had ≤ (g p).task.had))
-    → Each (λ p. p.task.number ≡ n → p.task.had + 1 ≤ h) (map g jobs)
-    → Each (λ p. p.task.number ≡ n → p.task.had + 1 ≤ h) jobs
-less_mapped n h jobs g grows low p member same =
-    let later : (g p).task.had + 1 ≤ h = low (g p) (map_member g jobs p member) ((grows p).0 ∙ same) in
-    omega (arith, later, (grows p).1)
-
--- what is less after a move was less before
-less_before : (n h : ℕ) (s : State) (m : Move) → Less n h (after s m) → Less n h s
-less_before n h s (Prints q e) low = less_mapped n h s.jobs (placed_after q e) (λ p.
-    let it = event_task q e p in
-    (ap (λ (t : Task). t.number) it.1, omega (arith, ap (λ (t : Task). t.had) it.1))) low
-less_before n h s (Waits k) low = less_mapped n h s.jobs (λ p. cond (eqb p.task.number k) (in_role p Waiting) p)
-    (λ p. by_test p (eqb p.task.number k)) low where
-      by_test : (p : Placed) (b : Bool) → ((cond b (in_role p Waiting) p).task.number ≡ p.task.number)
-          × (p.task.had ≤ (cond b (in_role p Waiting) p).task.had)
-      by_test p true = (refl, omega arith)
-      by_test p false = (refl, omega arith)
-less_before n h s Ticks low = less_mapped n h s.jobs ticked
-    (λ p. ((tick_plain p).0, omega (arith, (tick_plain p).4))) low
-
--- the clock is as before, or the move is a tick
-clock_after : (s : State) (m : Move) → ((after s m).clock ≡ s.clock) ⊎ (m ≡ Ticks)
-clock_after s (Prints q e) = inl refl
-clock_after s (Waits n) = inl refl
-clock_after s Ticks = inr refl
-
-module _ (processors : ℕ) (J : Instance) (valid : IsValid J) (some : 1 ≤ processors) where
-  -- before a tick, the job that runs then had one less
-  tick_before : (s : State) → Keeps processors J s → (p : Placed) → IsMember p (after s Ticks).jobs
-      → p.task.role ≡ Running → Less p.task.number p.task.had s
-  tick_before s keeps p member runs v v_member same =
-      let was : (u : Placed) × IsMember u s.jobs × (p ≡ ticked u) = map_back ticked s.jobs p member in
-      let plain = tick_plain was.0 in
-      let number : p.task.number ≡ was.0.task.number = ap (λ (x : Placed). x.task.number) was.2 ∙ plain.0 in
-      let ran : is_running was.0.task ≡ true = passes is_running was.0.task Running true
-      (sym plain.2 ∙ ap (λ (x : Placed). x.task.role) (sym was.2) ∙ runs) refl in
-      let had : p.task.had ≡ was.0.task.had + one (is_running was.0.task) =
-      ap (λ (x : Placed). x.task.had) was.2 ∙ plain.4 in
-      let more : was.0.task.had + one (is_running was.0.task) ≡ was.0.task.had + 1 =
-      ap (λ b. was.0.task.had + one b) ran in
-      let it : v ≡ was.0 = same_job processors J valid s keeps v was.0 v_member was.1 (same ∙ number) in
-      omega (arith, had, more, ap (λ (x : Placed). x.task.had) it)
-
-  module _ (mark : ℕ) (p : Placed) (runs : p.task.role ≡ Running) where
-    -- the steps, the first of which is the open step
-    abbrev move_of : State → Move
-    move_of s = open_step processors J.rules s
-
-    -- on the way to where the job runs, all of whose steps are taken at earlier clocks, it had less before
-    less_all : (xs : List many.Step) (s : State) → Keeps processors J s → IsSettledRun processors J.rules mark s xs
-        → IsMember p (behind s xs).jobs → Each (λ x. x.before.clock < (behind s xs).clock) xs
-        → Each (λ x. Less p.task.number p.task.had x.before) xs
-    less_all [] s keeps run member early x here = absurd here
-    less_all (x ∷ []) s keeps run member early y (inr none) = absurd none
-    less_all (x ∷ []) s keeps run member early y (inl e) =
-        subst (λ (z : many.Step). Less p.task.number p.task.had z.before) (sym (e ∙ run.0))
-        (by_clock (clock_after s (move_of s))) where
-          low : s.clock < (after s (move_of s)).clock
-          low = subst (λ (z : many.Step). z.before.clock < (after z.before z.move).clock) run.0 (early x (inl refl))
-
-          there : IsMember p (after s (move_of s)).jobs
-          there = subst (λ (z : many.Step). IsMember p (after z.before z.move).jobs) run.0 member
-
-          by_clock : ((after s (move_of s)).clock ≡ s.clock) ⊎ (move_of s ≡ Ticks)
-              → Less p.task.number p.task.had s
-          by_clock (inl same) = absurd (omega (arith, low, same))
-          by_clock (inr ticks) = tick_before s keeps p (subst (λ m. IsMember p (after s m).jobs) ticks there) runs
-    less_all (x ∷ y ∷ zs) s keeps run member early w there_w =
-        by_member (less_all (y ∷ zs) (after s (move_of s)) (open_kept processors J valid some J.rules s keeps) run.2
-        (subst (λ (z : many.Step). IsMember p (behind (after z.before z.move) (y ∷ zs)).jobs) run.0 member)
-        (λ z there. subst (λ (u : many.Step). z.before.clock < (behind (after u.before u.move) (y ∷ zs)).clock) run.0
-        (early z (inr there)))) w there_w where
-          by_member : Each (λ z. Less p.task.number p.task.had z.before) (y ∷ zs)
-              → Each (λ z. Less p.task.number p.task.had z.before) (x ∷ y ∷ zs)
-          by_member rest z (inr there) = rest z there
-          by_member rest z (inl e) = subst (λ (u : many.Step). Less p.task.number p.task.had u.before) (sym (e ∙ run.0))
-              (less_before p.task.number p.task.had s (move_of s)
-              (subst (λ (u : many.Step). Less p.task.number p.task.had u.before) run.2.0 (rest y (inl refl))))
-
--- a job that runs behind a tick had it
-tick_had : (s : State) (p : Placed) → IsMember p (after s Ticks).jobs → p.task.role ≡ Running → 1 ≤ p.task.had
-tick_had s p member runs =
-    let was : (u : Placed) × IsMember u s.jobs × (p ≡ ticked u) = map_back ticked s.jobs p member in
-    let plain = tick_plain was.0 in
-    let ran : is_running was.0.task ≡ true = passes is_running was.0.task Running true
-    (sym plain.2 ∙ ap (λ (x : Placed). x.task.role) (sym was.2) ∙ runs) refl in
-    let had : p.task.had ≡ was.0.task.had + one (is_running was.0.task) =
-    ap (λ (x : Placed). x.task.had) was.2 ∙ plain.4 in
-    let more : was.0.task.had + one (is_running was.0.task) ≡ was.0.task.had + 1 =
-    ap (λ b. was.0.task.had + one b) ran in omega (arith, had, more)
-
--- so has one that runs where all steps were taken at earlier clocks
-some_had : (processors : ℕ) (rules : Rules) (mark : ℕ) (p : Placed) → p.task.role ≡ Running → (xs : List many.Step)
-    (s : State) → IsSettledRun processors rules mark s xs → (xs ≡ [] → Each (λ u. u.task.role ≡ Running → ⊥) s.jobs)
-    → IsMember p (behind s xs).jobs → Each (λ x. x.before.clock < (behind s xs).clock) xs → 1 ≤ p.task.had
-some_had processors rules mark p runs [] s run none member early = absurd (none refl p member runs)
-some_had processors rules mark p runs (x ∷ []) s run none member early =
-    by_clock (clock_after s (open_step processors rules s)) where
-      low : s.clock < (after s (open_step processors rules s)).clock
-      low = subst (λ (z : many.Step). z.before.clock < (after z.before z.move).clock) run.0 (early x (inl refl))
-
-      there : IsMember p (after s (open_step processors rules s)).jobs
-      there = subst (λ (z : many.Step). IsMember p (after z.before z.move).jobs) run.0 member
-
-      by_clock : ((after s (open_step processors rules s)).clock ≡ s.clock) ⊎ (open_step processors rules s ≡ Ticks)
-          → 1 ≤ p.task.had
-      by_clock (inl same) = absurd (omega (arith, low, same))
-      by_clock (inr ticks) = tick_had s p (subst (λ m. IsMember p (after s m).jobs) ticks there) runs
-some_had processors rules mark p runs (x ∷ y ∷ zs) s run none member early =
-    some_had processors rules mark p runs (y ∷ zs) (after s (open_step processors rules s)) run.2
-    (λ e. absurd (let no : y ∷ zs ≡ [] = e in cc))
-    (subst (λ (z : many.Step). IsMember p (behind (after z.before z.move) (y ∷ zs)).jobs) run.0 member)
-    (λ z there. subst (λ (u : many.Step). z.before.clock < (behind (after u.before u.move) (y ∷ zs)).clock) run.0
-    (early z (inr there)))
 
 -- ---- who has come to a finish
 
 -- the parts of the answer of a processor
-finish_parts : (f : Finish) (q : Seen) (m : Move) (o : Option Task) → finish_on f q o ≡ Some m
+pub finish_parts : (f : Finish) (q : Seen) (m : Move) (o : Option Task) → finish_on f q o ≡ Some m
     → (t : Task) × (o ≡ Some t) × (has_come_to t f ≡ true) × (Prints q.processor (Complete q.view.clock t.number) ≡ m)
 finish_parts f q m None some = none_is_some some
 finish_parts f q m (Some t) some = by_test (has_come_to t f) refl some where
@@ -174,7 +54,7 @@ finish_parts f q m (Some t) some = by_test (has_come_to t f) refl some where
   by_test false e is = none_is_some is
 
 -- its numbers
-come_parts : (t : Task) (f : Finish) → has_come_to t f ≡ true → (t.number ≡ f.number) × (t.had ≡ f.had)
+pub come_parts : (t : Task) (f : Finish) → has_come_to t f ≡ true → (t.number ≡ f.number) × (t.had ≡ f.had)
 come_parts t f e =
     let outer = and_parts ((f.number == t.number) && (f.had == t.had)) (nat_lt 0 t.had) e in
     let inner = and_parts (f.number == t.number) (f.had == t.had) outer.0 in
@@ -199,34 +79,6 @@ module _ (processors : ℕ) (J : Instance) (valid : IsValid J) (some : 1 ≤ pro
         let low : x.0.task.had + 1 ≤ t.had = less x.0 x.1 (ap (λ (u : Task). u.number) x.2 ∙ parts.0) in
         absurd (omega (arith, low, ap (λ (u : Task). u.had) x.2, parts.1))
 
-module _ (processors : ℕ) (J : Instance) (valid : IsValid J) (some : 1 ≤ processors) (mark : ℕ) (p : Placed)
-    (at : RunsAtMark processors J mark p) where
-  -- no settled step comes to the finish
-  none_due_before : Each (λ x. NoneIsDue processors J.rules.version (finish_now p.task ∷ []) x.before)
-      (settled_steps processors J mark)
-  none_due_before = each_due (settled_steps processors J mark) (opening J.jobs) (opening_kept processors J)
-      (settled_is_run processors J valid some mark)
-      (less_all processors J valid some mark p at.runs (settled_steps processors J mark) (opening J.jobs)
-      (opening_kept processors J) (settled_is_run processors J valid some mark) at.member
-      (λ x member. subst (λ c. x.before.clock < c) (sym (settled_at_barrier processors J valid some mark).clock)
-      (at.before x member))) where
-        each_due : (xs : List many.Step) (s : State) → Keeps processors J s
-            → IsSettledRun processors J.rules mark s xs → Each (λ x. Less p.task.number p.task.had x.before) xs
-            → Each (λ x. NoneIsDue processors J.rules.version (finish_now p.task ∷ []) x.before) xs
-        each_due [] s keeps run less x member = absurd member
-        each_due (y ∷ ys) s keeps run less x (inl e) =
-            subst (λ (z : many.Step). NoneIsDue processors J.rules.version (finish_now p.task ∷ []) z.before)
-            (sym (e ∙ run.0)) (not_due processors J valid some s keeps p.task
-            (subst (λ (z : many.Step). Less p.task.number p.task.had z.before) run.0 (less y (inl refl))))
-        each_due (y ∷ ys) s keeps run less x (inr member) = each_due ys (after s (open_step processors J.rules s))
-            (open_kept processors J valid some J.rules s keeps) run.2 (λ z m. less z (inr m)) x member
-
-  -- what is settled stays
-  pub stays_at_mark : Begins (settled_steps processors J mark)
-      (settled_steps processors (with_finishes J (finish_now p.task ∷ [])) mark)
-  stays_at_mark = further_begins processors J (finish_now p.task ∷ []) some valid mark mark (omega arith)
-      none_due_before
-
 -- ---- at the barrier
 
 -- where what is done otherwise is late, there is no answer that isn't
@@ -248,22 +100,25 @@ run_early (Waits n) e = never e
 run_early Ticks e = never e
 
 -- behind what answers none, the first answer is that of the others
-first_behind : {X Y : Type 0} (f : X → Option Y) (xs ys : List X) → first_some f xs ≡ None
+pub first_behind : {X Y : Type 0} (f : X → Option Y) (xs ys : List X) → first_some f xs ≡ None
     → first_some f (xs ++ ys) ≡ first_some f ys
 first_behind f [] ys none = refl
 first_behind f (x ∷ xs) ys none =
     let both = try_none (f x) (first_some f xs) none in
     ap (λ o. o or_try first_some f (xs ++ ys)) both.0 ∙ first_behind f xs ys both.1
 
+-- what comes behind the finishes
+abbrev behind_finishes : Rules → List Seen → Move
+behind_finishes rules all = for_one decision (deciding all) or_else for_one arrival (front all)
+    or_else for_one (alarm rules.ratio) (least_valued all) or_else Ticks
+
 module _ (processors : ℕ) (rules : Rules) (s : State) (late : waits_for_mark (open_step processors rules s) ≡ true)
   where
     abbrev all : List Seen
     all = all_seen processors rules.version s
 
-    -- what comes behind the finishes
     abbrev rest : Move
-    rest = for_one decision (deciding all) or_else for_one arrival (front all)
-        or_else for_one (alarm rules.ratio) (least_valued all) or_else Ticks
+    rest = behind_finishes rules all
 
     -- no case before the finishes applies, and no finish is due
     completes_not : (first_some completion all ≡ None) × (waits_for_mark (first_some resumption all
@@ -348,23 +203,200 @@ module _ (processors : ℕ) (J : Instance) (valid : IsValid J) (some : 1 ≤ pro
         ∙ ap (λ n. Prints q.0.processor (Complete s.clock n)) parts.0
         ∙ ap (λ n. Prints n (Complete s.clock p.task.number)) (sym own.1 ∙ ap (λ (u : Placed). u.owner) one_job))
 
-module _ (processors : ℕ) (J : Instance) (valid : IsValid J) (some : 1 ≤ processors) (mark : ℕ) (p : Placed)
-    (at : RunsAtMark processors J mark p) where
-  -- and its completion is next
-  pub next_at_mark : open_step processors (with_finishes J (finish_now p.task ∷ [])).rules
-      (settled_state processors J mark) ≡ Prints p.owner (Complete mark p.task.number)
-  next_at_mark = next_completes processors J.rules (settled_state processors J mark)
-      (at_barrier (waits_for_mark (open_step processors J.rules (settled_state processors J mark))) mark
-      (settled_state processors J mark).clock barrier.barrier).0 (finish_now p.task ∷ [])
-      (Prints p.owner (Complete (settled_state processors J mark).clock p.task.number))
-      (now_due processors J valid some (settled_state processors J mark) barrier.keeps p at.member at.runs
-      (some_had processors J.rules mark p at.runs (settled_steps processors J mark) (opening J.jobs)
-      (settled_is_run processors J valid some mark) (λ e. none_runs) at.member
-      (λ x member. subst (λ c. x.before.clock < c) (sym barrier.clock) (at.before x member))))
-      ∙ ap (λ c. Prints p.owner (Complete c p.task.number)) barrier.clock where
-        barrier : AtBarrier processors J mark (settled_state processors J mark)
-        barrier = settled_at_barrier processors J valid some mark
+-- ---- before it
 
-        none_runs : Each (λ u. u.task.role ≡ Running → ⊥) (opening J.jobs).jobs
-        none_runs = on_map unplaced (λ u. u.task.role ≡ Running → ⊥) (to_come 0 J.jobs)
-            (λ t member runs. let e : Coming ≡ Running = sym (come_coming 0 J.jobs t member).0 ∙ runs in absurd (cc))
+-- where the first three answer none, what comes behind them is done
+pub behind_none : (c r d : Option Move) (other : Move) → c ≡ None → r ≡ None → d ≡ None
+    → (c or_else r or_else d or_else other) ≡ other
+behind_none c r d other no_c no_r no_d = ap (λ o. o or_else r or_else d or_else other) no_c
+    ∙ ap (λ o. o or_else d or_else other) no_r ∙ ap (λ o. o or_else other) no_d
+
+-- what is the same there is the same
+pub same_behind : (c r d a b : Option Move) (other : Move) → (c ≡ None → r ≡ None → d ≡ None → a ≡ b)
+    → (c or_else r or_else d or_else a or_else other) ≡ (c or_else r or_else d or_else b or_else other)
+same_behind (Some m) r d a b other same = refl
+same_behind None (Some m) d a b other same = refl
+same_behind None None (Some m) a b other same = refl
+same_behind None None None a b other same = ap (λ o. o or_else other) (same refl refl refl)
+
+-- an answer in front is the first
+first_stays : {X Y : Type 0} (f : X → Option Y) (xs ys : List X) (y : Y) → first_some f xs ≡ Some y
+    → first_some f (xs ++ ys) ≡ Some y
+first_stays f [] ys y is = none_is_some is
+first_stays f (x ∷ xs) ys y is = by_first (f x) is (first_stays f xs ys y) where
+  by_first : (o : Option _) → (o or_try first_some f xs) ≡ Some y
+      → (first_some f xs ≡ Some y → first_some f (xs ++ ys) ≡ Some y)
+      → (o or_try first_some f (xs ++ ys)) ≡ Some y
+  by_first None is more = more is
+  by_first (Some z) is more = is
+
+module _ (processors : ℕ) (J : Instance) (valid : IsValid J) (some : 1 ≤ processors) (s : State)
+    (keeps : Keeps processors J s) (stale : NoneFresh s) (n : ℕ) (more : List Finish) where
+  abbrev seen_all : List Seen
+  seen_all = all_seen processors J.rules.version s
+
+  -- no processor sees a fresh job
+  none_seen : (q : Seen) → IsMember q seen_all → q.view.fresh ≡ None
+  none_seen q member = by_fresh q.view.fresh refl where
+    by_fresh : (o : Option Task) → q.view.fresh ≡ o → o ≡ None
+    by_fresh None e = refl
+    by_fresh (Some t) e =
+        let i = which processors J valid some J.rules s keeps q member in
+        let it = found is_fresh (map (seen_by q.processor) s.jobs) t
+        (sym (ap (λ (r : Seen). r.view.fresh) i.0) ∙ e) in
+        let fresh : t.role ≡ Fresh = fresh_role t t.role refl it.1 in
+        let x = seen_member q.processor s.jobs t Fresh (λ d. cc) fresh it.0 in
+        absurd (stale x.0 x.1 (ap (λ (u : Task). u.role) x.2 ∙ fresh)) where
+          fresh_role : (t : Task) (role : Role) → t.role ≡ role → is_fresh t ≡ true → t.role ≡ Fresh
+          fresh_role t Fresh e is = e
+          fresh_role t Coming e is = never (sym (passes is_fresh t Coming false e refl) ∙ is)
+          fresh_role t Waiting e is = never (sym (passes is_fresh t Waiting false e refl) ∙ is)
+          fresh_role t Held e is = never (sym (passes is_fresh t Held false e refl) ∙ is)
+          fresh_role t Running e is = never (sym (passes is_fresh t Running false e refl) ∙ is)
+          fresh_role t Done e is = never (sym (passes is_fresh t Done false e refl) ∙ is)
+          fresh_role t Gone e is = never (sym (passes is_fresh t Gone false e refl) ∙ is)
+
+  -- what comes behind the finishes isn't beside a job
+  decides_not : (m : Move) → for_one decision (deciding seen_all) ≡ Some m → ⊥
+  decides_not m is =
+      let q = for_some decision (deciding seen_all) m is in
+      let member = deciding_member J.rules s seen_all (each_sees processors J.rules.version s) q.0 q.1 in
+      by_fresh q.0 (q.0).view.fresh (none_seen q.0 member) q.2 where
+        by_fresh : (q : Seen) (f : Option Task) → f ≡ None → placed q (single.decision q.view q.view.running f) ≡ Some m
+            → ⊥
+        by_fresh q None e is = none_is_some is
+        by_fresh q (Some t) e is = none_is_some (sym e)
+
+  arrives_not : (m : Move) → for_one arrival (front seen_all) ≡ Some m → IsBeside n m → ⊥
+  arrives_not m is beside =
+      let q = for_some arrival (front seen_all) m is in by_coming q.0 (q.0).view.coming q.2 where
+        by_now : (q : Seen) (c : Task) (b : Bool)
+            → placed q (then_some b (single.Prints (Release c.number c.job))) ≡ Some m → ⊥
+        by_now q c true is = never (subst (IsBeside n) (sym (some_same _ _ is)) beside)
+        by_now q c false is = none_is_some is
+
+        by_coming : (q : Seen) (o : Option Task) → placed q (single.arrival q.view o) ≡ Some m → ⊥
+        by_coming q None is = none_is_some is
+        by_coming q (Some c) is = by_now q c (c.job.release == q.view.clock) is
+
+  alarms_not : (m : Move) → for_one (alarm J.rules.ratio) (least_valued seen_all) ≡ Some m → IsBeside n m → ⊥
+  alarms_not m is beside =
+      let q = for_some (alarm J.rules.ratio) (least_valued seen_all) m is in
+      by_parts q.0 (q.0).view.running (q.0).view.must_start q.2 where
+        by_value : (q : Seen) (r x : Task) (b : Bool) → placed q (Some (single.Prints
+            (cond b (Take q.view.clock r.number x.number) (Abandon q.view.clock x.number)))) ≡ Some m → ⊥
+        by_value q r x true is = never (subst (IsBeside n) (sym (some_same _ _ is)) beside)
+        by_value q r x false is = never (subst (IsBeside n) (sym (some_same _ _ is)) beside)
+
+        by_parts : (q : Seen) (r x : Option Task) → placed q (single.alarm J.rules.ratio q.view r x) ≡ Some m → ⊥
+        by_parts q r None is = none_is_some is
+        by_parts q None (Some x) is = none_is_some is
+        by_parts q (Some r) (Some x) is = by_value q r x (is_heavy J.rules.ratio x.job.value q.view.privileged_value) is
+
+  behind_not : (m : Move) → behind_finishes J.rules seen_all ≡ m → IsBeside n m → ⊥
+  behind_not m is beside = by_fourth (or_split (for_one decision (deciding seen_all)) _ m is) where
+    by_sixth : (for_one (alarm J.rules.ratio) (least_valued seen_all) ≡ Some m)
+        ⊎ ((for_one (alarm J.rules.ratio) (least_valued seen_all) ≡ None) × (Ticks ≡ m)) → ⊥
+    by_sixth (inl some) = alarms_not m some beside
+    by_sixth (inr it) = subst (IsBeside n) (sym it.1) beside
+
+    by_fifth : (for_one arrival (front seen_all) ≡ Some m) ⊎ ((for_one arrival (front seen_all) ≡ None)
+        × ((for_one (alarm J.rules.ratio) (least_valued seen_all) or_else Ticks) ≡ m)) → ⊥
+    by_fifth (inl some) = arrives_not m some beside
+    by_fifth (inr it) = by_sixth (or_split (for_one (alarm J.rules.ratio) (least_valued seen_all)) _ m it.1)
+
+    by_fourth : (for_one decision (deciding seen_all) ≡ Some m) ⊎ ((for_one decision (deciding seen_all) ≡ None)
+        × ((for_one arrival (front seen_all) or_else for_one (alarm J.rules.ratio) (least_valued seen_all)
+        or_else Ticks) ≡ m)) → ⊥
+    by_fourth (inl some) = decides_not m some
+    by_fourth (inr it) = by_fifth (or_split (for_one arrival (front seen_all)) _ m it.1)
+
+  -- so a step beside a job is the same with further finishes
+  beside_same : IsBeside n (open_step processors J.rules s)
+      → open_step processors (having J.rules (J.rules.finishes ++ more)) s ≡ open_step processors J.rules s
+  beside_same beside = same_behind (first_some completion seen_all) (first_some resumption seen_all)
+      (for_one dispatch (free_one seen_all)) (first_some (finishing seen_all) (J.rules.finishes ++ more))
+      (first_some (finishing seen_all) J.rules.finishes) (behind_finishes J.rules seen_all)
+      (λ c r d. by_own (first_some (finishing seen_all) J.rules.finishes) refl
+      (subst (IsBeside n) (behind_none (first_some completion seen_all) (first_some resumption seen_all)
+      (for_one dispatch (free_one seen_all)) _ c r d) beside)) where
+        by_own : (o : Option Move) → first_some (finishing seen_all) J.rules.finishes ≡ o
+            → IsBeside n (o or_else behind_finishes J.rules seen_all)
+            → first_some (finishing seen_all) (J.rules.finishes ++ more) ≡ o
+        by_own (Some m) is beside = first_stays (finishing seen_all) J.rules.finishes more m is
+        by_own None is beside = absurd (behind_not (behind_finishes J.rules seen_all) refl beside)
+
+-- ---- of a mark
+
+module _ (processors : ℕ) (J : Instance) (valid : IsValid J) (some : 1 ≤ processors) (mark : ℕ) where
+  -- in the opening all jobs are to come
+  none_yet : (role : Role) → (role ≡ Coming → ⊥) → Each (λ u. u.task.role ≡ role → ⊥) (opening J.jobs).jobs
+  none_yet role other = on_map unplaced (λ u. u.task.role ≡ role → ⊥) (to_come 0 J.jobs)
+      (λ t member is. other (sym is ∙ (come_coming 0 J.jobs t member).0))
+
+  barrier : AtBarrier processors J mark (settled_state processors J mark)
+  barrier = settled_at_barrier processors J valid some mark
+
+  module _ (p : Placed) (at : RunsAtMark processors J mark p) where
+    -- the settled steps are taken before the mark, or beside the job
+    steps_are : Each (IsEarlyOrBeside mark p.task.number) (settled_steps processors J mark)
+    steps_are = all_are processors J valid some mark p.task.number (settled_steps processors J mark) (opening J.jobs)
+        (opening_kept processors J) (omega arith) (λ e. none_yet Fresh (λ f. cc))
+        (settled_is_run processors J valid some mark)
+        (said processors J valid some mark p.task.number (settled_steps processors J mark) at.before)
+
+    job_came : Came processors J valid some mark p at.runs (opening J.jobs)
+        × Each (λ x. x.before.clock < mark → Less p.task.number p.task.had x.before) (settled_steps processors J mark)
+    job_came = had_less processors J valid some mark p at.runs (settled_steps processors J mark) (opening J.jobs)
+        (opening_kept processors J) (settled_is_run processors J valid some mark) at.member barrier.clock steps_are
+
+    -- with the finish each settled step is the same
+    same_steps : (xs : List many.Step) (s : State) → Keeps processors J s → IsSettledRun processors J.rules mark s xs
+        → Each (IsEarlyOrBeside mark p.task.number) xs
+        → Each (λ x. x.before.clock < mark → Less p.task.number p.task.had x.before) xs
+        → Each (λ x. open_step processors (with_finishes J (finish_now p.task ∷ [])).rules x.before
+        ≡ open_step processors J.rules x.before) xs
+    same_steps [] s keeps run kinds less x member = absurd member
+    same_steps (y ∷ ys) s keeps run kinds less x (inr member) = same_steps ys (after s (open_step processors J.rules s))
+        (open_kept processors J valid some J.rules s keeps) run.2 (λ z m. kinds z (inr m)) (λ z m. less z (inr m)) x
+        member
+    same_steps (y ∷ ys) s keeps run kinds less x (inl e) =
+        subst (λ (z : many.Step). open_step processors (with_finishes J (finish_now p.task ∷ [])).rules z.before
+        ≡ open_step processors J.rules z.before) (sym (e ∙ run.0))
+        (by_kind (subst (IsEarlyOrBeside mark p.task.number) run.0 (kinds y (inl refl)))) where
+          by_kind : IsEarlyOrBeside mark p.task.number (record { before = s; move = open_step processors J.rules s })
+              → open_step processors (with_finishes J (finish_now p.task ∷ [])).rules s
+              ≡ open_step processors J.rules s
+          by_kind (inl low) = same_open processors J (J.rules.finishes ++ (finish_now p.task ∷ [])) s
+              (further_alike processors J (finish_now p.task ∷ []) s
+              (not_due processors J valid some s keeps p.task
+              (subst (λ (z : many.Step). z.before.clock < mark → Less p.task.number p.task.had z.before) run.0
+              (less y (inl refl)) low)))
+          by_kind (inr it) =
+              beside_same processors J valid some s keeps it.1 p.task.number (finish_now p.task ∷ []) it.2
+
+    -- so what is settled stays
+    pub stays_at_mark : Begins (settled_steps processors J mark)
+        (settled_steps processors (with_finishes J (finish_now p.task ∷ [])) mark)
+    stays_at_mark = same_begins processors J (J.rules.finishes ++ (finish_now p.task ∷ [])) some valid mark mark
+        (omega arith) (same_steps (settled_steps processors J mark) (opening J.jobs) (opening_kept processors J)
+        (settled_is_run processors J valid some mark) steps_are job_came.1)
+
+    -- the job had a tick
+    some_had : 1 ≤ p.task.had
+    some_had = by_mark (nat_lt 0 mark) refl where
+      by_mark : (b : Bool) → nat_lt 0 mark ≡ b → 1 ≤ p.task.had
+      by_mark true e = (job_came.0.0 (ltb-true _ _ e)).1
+      by_mark false e =
+          let none : mark ≤ 0 = ltb-false _ _ e in
+          absurd (none_yet Running (λ f. cc) p (job_came.0.1 (omega (arith, none))) at.runs)
+
+    -- and its completion is next
+    pub next_at_mark : open_step processors (with_finishes J (finish_now p.task ∷ [])).rules
+        (settled_state processors J mark) ≡ Prints p.owner (Complete mark p.task.number)
+    next_at_mark = next_completes processors J.rules (settled_state processors J mark)
+        (at_barrier (waits_for_mark (open_step processors J.rules (settled_state processors J mark))) mark
+        (settled_state processors J mark).clock barrier.barrier).0 (finish_now p.task ∷ [])
+        (Prints p.owner (Complete (settled_state processors J mark).clock p.task.number))
+        (now_due processors J valid some (settled_state processors J mark) barrier.keeps p at.member at.runs some_had)
+        ∙ ap (λ c. Prints p.owner (Complete c p.task.number)) barrier.clock

@@ -49,7 +49,7 @@ module _ (processors : ℕ) (J : Instance) (gs : List Finish) where
   K = declared.finishing J gs
 
   -- where they lead to the same completion, the open step is the same
-  same_open : (s : State) → IsDueAlike processors J gs s
+  pub same_open : (s : State) → IsDueAlike processors J gs s
       → open_step processors K.rules s ≡ open_step processors J.rules s
   same_open s alike = ap (λ o. first_some completion all or_else first_some resumption all
       or_else for_one dispatch (free_one all) or_else o or_else for_one decision (deciding all)
@@ -58,25 +58,35 @@ module _ (processors : ℕ) (J : Instance) (gs : List Finish) where
       all : List Seen
       all = all_seen processors J.rules.version s
 
-  -- so the steps before the barrier of a mark begin those before the barrier of a later one
-  begin_alike : (mark mark2 : ℕ) → mark ≤ mark2 → (xs ys : List many.Step) (s : State)
+  -- where the open step is the same, the steps before the barrier of a mark begin those before the barrier of a later
+  -- one
+  begin_same : (mark mark2 : ℕ) → mark ≤ mark2 → (xs ys : List many.Step) (s : State)
       → IsSettledRun processors J.rules mark s xs → IsSettledRun processors K.rules mark2 s ys
-      → Each (λ x. IsDueAlike processors J gs x.before) xs → Begins xs ys
-  begin_alike mark mark2 later [] ys s run run2 alike = (ys, refl)
-  begin_alike mark mark2 later (x ∷ xs) [] s run run2 alike =
-      let same = same_open s (subst (λ (z : many.Step). IsDueAlike processors J gs z.before) run.0
-      (alike x (inl refl))) in
-      let it = at_barrier (waits_for_mark (open_step processors K.rules s)) mark2 s.clock run2 in
-      let low = late_early (waits_for_mark (open_step processors J.rules s)) mark s.clock run.1
-      (ap waits_for_mark (sym same) ∙ it.0) in absurd (omega (arith, later, it.1, low))
-  begin_alike mark mark2 later (x ∷ xs) (y ∷ ys) s run run2 alike =
-      let same = same_open s (subst (λ (z : many.Step). IsDueAlike processors J gs z.before) run.0
-      (alike x (inl refl))) in
-      let rest = begin_alike mark mark2 later xs ys (after s (open_step processors J.rules s)) run.2
-      (subst (λ m. IsSettledRun processors K.rules mark2 (after s m) ys) same run2.2)
-      (λ z member. alike z (inr member)) in
-      let one : y ≡ x = run2.0 ∙ ap (λ m. let z : many.Step = record { before = s; move = m } in z) same
-      ∙ sym run.0 in (rest.0, ap (λ z. z ∷ ys) one ∙ ap (λ zs. x ∷ zs) rest.1)
+      → Each (λ x. open_step processors K.rules x.before ≡ open_step processors J.rules x.before) xs → Begins xs ys
+  begin_same mark mark2 later [] ys s run run2 alike = (ys, refl)
+  begin_same mark mark2 later (x ∷ xs) ys s run run2 alike = by_other ys run2 same
+      (begin_same mark mark2 later xs) where
+        same : open_step processors K.rules s ≡ open_step processors J.rules s
+        same = subst (λ (z : many.Step). open_step processors K.rules z.before ≡ open_step processors J.rules z.before)
+            run.0 (alike x (inl refl))
+
+        by_other : (ys : List many.Step) → IsSettledRun processors K.rules mark2 s ys
+            → open_step processors K.rules s ≡ open_step processors J.rules s
+            → ((zs : List many.Step) (t : State) → IsSettledRun processors J.rules mark t xs
+            → IsSettledRun processors K.rules mark2 t zs
+            → Each (λ x. open_step processors K.rules x.before ≡ open_step processors J.rules x.before) xs
+            → Begins xs zs)
+            → Begins (x ∷ xs) ys
+        by_other [] run2 same more =
+            let it = at_barrier (waits_for_mark (open_step processors K.rules s)) mark2 s.clock run2 in
+            let low = late_early (waits_for_mark (open_step processors J.rules s)) mark s.clock run.1
+            (ap waits_for_mark (sym same) ∙ it.0) in absurd (omega (arith, later, it.1, low))
+        by_other (y ∷ ys) run2 same more =
+            let rest = more ys (after s (open_step processors J.rules s)) run.2
+            (subst (λ m. IsSettledRun processors K.rules mark2 (after s m) ys) same run2.2)
+            (λ z member. alike z (inr member)) in
+            let one : y ≡ x = run2.0 ∙ ap (λ m. let z : many.Step = record { before = s; move = m } in z) same
+            ∙ sym run.0 in (rest.0, ap (λ z. z ∷ ys) one ∙ ap (λ zs. x ∷ zs) rest.1)
 
   -- and are the same, where these finishes lead to the same there too
   same_alike : (mark : ℕ) (xs ys : List many.Step) (s : State)
@@ -101,12 +111,18 @@ module _ (processors : ℕ) (J : Instance) (gs : List Finish) where
 
   module _ (some : 1 ≤ processors) (valid : IsValid J) (mark : ℕ) where
     -- of what is settled
+    pub same_begins : (mark2 : ℕ) → mark ≤ mark2
+        → Each (λ x. open_step processors K.rules x.before ≡ open_step processors J.rules x.before)
+        (settled_steps processors J mark)
+        → Begins (settled_steps processors J mark) (settled_steps processors K mark2)
+    same_begins mark2 later same = begin_same mark mark2 later (settled_steps processors J mark)
+        (settled_steps processors K mark2) (opening J.jobs) (settled_is_run processors J valid some mark)
+        (settled_is_run processors K (finishing_valid J gs valid) some mark2) same
+
     pub alike_begins : (mark2 : ℕ) → mark ≤ mark2
         → Each (λ x. IsDueAlike processors J gs x.before) (settled_steps processors J mark)
         → Begins (settled_steps processors J mark) (settled_steps processors K mark2)
-    alike_begins mark2 later alike = begin_alike mark mark2 later (settled_steps processors J mark)
-        (settled_steps processors K mark2) (opening J.jobs) (settled_is_run processors J valid some mark)
-        (settled_is_run processors K (finishing_valid J gs valid) some mark2) alike
+    alike_begins mark2 later alike = same_begins mark2 later (λ x member. same_open x.before (alike x member))
 
     pub alike_same : AreDueAlike processors J mark gs
         → settled_steps processors K mark ≡ settled_steps processors J mark
@@ -135,7 +151,7 @@ module _ (processors : ℕ) (J : Instance) (gs : List Finish) where
 
 module _ (processors : ℕ) (J : Instance) (more : List Finish) where
   -- behind the instance's own, finishes of which none is due lead to the same
-  further_alike : (s : State) → NoneIsDue processors J.rules.version more s
+  pub further_alike : (s : State) → NoneIsDue processors J.rules.version more s
       → IsDueAlike processors J (J.rules.finishes ++ more) s
   further_alike s none = first_front (finishing (all_seen processors J.rules.version s)) J.rules.finishes more none
 

@@ -30,7 +30,7 @@ use Rattle.many_processors.proofs.settled.Prefixes.{behind_keeps, from_move, com
 use Rattle.many_processors.proofs.settled.Prefixes.{later_keeps}
 
 -- what these steps print up to t
-abbrev up_to : ℕ → List many.Step → List (ℕ × Event)
+abbrev pub up_to : ℕ → List many.Step → List (ℕ × Event)
 up_to t steps = filter_map (event_up_to t) steps
 
 -- what a step prints by its clock and its move
@@ -59,7 +59,7 @@ clock_grows s (Waits n) = omega arith
 clock_grows s Ticks = omega arith
 
 -- nothing of a run from a later clock is up to t
-run_late : (processors : ℕ) (rules : Rules) (t fuel : ℕ) (s : State) → t < s.clock
+pub run_late : (processors : ℕ) (rules : Rules) (t fuel : ℕ) (s : State) → t < s.clock
     → up_to t (run_from processors rules fuel s) ≡ []
 run_late processors rules t zero s late = refl
 run_late processors rules t (suc fuel) s late =

@@ -41,7 +41,7 @@ use Rattle.many_processors.specs.Settled.{IsSettledRun}
 use Rattle.many_processors.proofs.steps.Seeing.{each_sees, seen_either}
 use Rattle.many_processors.proofs.steps.Cases as cases
 use Rattle.many_processors.proofs.steps.Cases.{StepCase, open_case}
-use Rattle.many_processors.proofs.steps.Placing.{seen_same, seen_of}
+use Rattle.many_processors.proofs.steps.Placing.{seen_same, seen_of, seen_is}
 use Rattle.many_processors.proofs.steps.Stepping.{real}
 use Rattle.many_processors.proofs.steps.Turns.{which, running_job, open_kept, opening_kept}
 use Rattle.many_processors.proofs.runs.EachStep.{open_goes_on}
@@ -52,7 +52,7 @@ use Rattle.many_processors.proofs.settled.Settling.{settled_is_run}
 
 -- ---- which jobs a move names
 
-abbrev names_of : Event → List ℕ
+abbrev pub names_of : Event → List ℕ
 names_of (Release n job) = n ∷ []
 names_of (Run at n) = n ∷ []
 names_of (Preempt at r n) = n ∷ r ∷ []
@@ -61,7 +61,7 @@ names_of (Complete at n) = n ∷ []
 names_of (Abandon at n) = n ∷ []
 names_of (End value) = []
 
-abbrev named_by : Move → List ℕ
+abbrev pub named_by : Move → List ℕ
 named_by (Prints q e) = names_of e
 named_by (Waits n) = n ∷ []
 named_by Ticks = []
@@ -103,9 +103,9 @@ deed_names k s q m (Abandoned r x member runs some x_member waits now stale ligh
     one_name s.tasks x x_member (passes is_over x Waiting false waits refl)
 deed_names k s q m (Rested quiet) = λ n none. absurd none
 
--- a job of this number is in the state
-abbrev IsHere : State → ℕ → Type 0
-IsHere s n = (p : Placed) × IsMember p s.jobs × (p.task.number ≡ n)
+-- a job of this number is in the state, and isn't over
+abbrev pub IsHere : State → ℕ → Type 0
+IsHere s n = (p : Placed) × IsMember p s.jobs × (p.task.number ≡ n) × (is_over p.task ≡ false)
 
 module _ (processors : ℕ) (J : Instance) (valid : IsValid J) (some : 1 ≤ processors) (rules : Rules) (s : State)
     (keeps : Keeps processors J s) where
@@ -120,27 +120,30 @@ module _ (processors : ℕ) (J : Instance) (valid : IsValid J) (some : 1 ≤ pro
       (real processors J valid s keeps i) acts.move acts.case) n
       (subst (λ m. IsMember n (named_by m)) acts.is member) in
       let p = seen_of i s.jobs t.0 t.1 in
-      (p.0, p.1, sym (seen_same i p.0).0 ∙ ap (λ (u : Task). u.number) p.2 ∙ t.2)
+      let same : seen_by i p.0 ≡ (p.0).task = seen_is i p.0 (λ done. never (sym t.3
+      ∙ ap is_over (sym p.2) ∙ passes is_over (seen_by i p.0) Done true done refl)) in
+      (p.0, p.1, sym (seen_same i p.0).0 ∙ ap (λ (u : Task). u.number) p.2 ∙ t.2, ap is_over (sym same ∙ p.2) ∙ t.3)
 
-  only_here : (x : Placed) → IsMember x s.jobs → Each (IsHere s) (x.task.number ∷ [])
-  only_here x member n (inl e) = (x, member, sym e)
-  only_here x member n (inr none) = absurd none
+  only_here : (x : Placed) → IsMember x s.jobs → is_over x.task ≡ false → Each (IsHere s) (x.task.number ∷ [])
+  only_here x member stays n (inl e) = (x, member, sym e, stays)
+  only_here x member stays n (inr none) = absurd none
 
-  -- a step names jobs of its state
-  named_here : (m : Move) → StepCase false rules s all m → Each (IsHere s) (named_by m)
-  named_here m (cases.Completed q member t runs finished) =
+  -- a step names jobs of its state that aren't over
+  pub named_here : (may_end : Bool) (m : Move) → StepCase may_end rules s all m → Each (IsHere s) (named_by m)
+  named_here may_end m (cases.Completed q member t runs finished) =
       let i = which processors J valid some rules s keeps q member in
       let x = running_job processors J valid some rules s keeps q.processor t
       (subst (λ (r : Seen). r.view.running ≡ Some t) i.0 runs) in
-      subst (λ k. Each (IsHere s) (k ∷ [])) (ap (λ (u : Task). u.number) x.2) (only_here x.0 x.1)
-  named_here m (cases.Acted q member n acts going decided) =
+      subst (λ k. Each (IsHere s) (k ∷ [])) (ap (λ (u : Task). u.number) x.2) (only_here x.0 x.1
+      (passes is_over x.0.task Running false x.3 refl))
+  named_here may_end m (cases.Acted q member n acts going decided) =
       let i = which processors J valid some rules s keeps q member in
       acts_name q.processor false m (subst (λ r. cases.Acts rules.ratio r false m) i.0 acts)
-  named_here m (cases.Abandoned q member n acts it going light) =
+  named_here may_end m (cases.Abandoned q member n acts it going light) =
       let i = which processors J valid some rules s keeps q member in
       acts_name q.processor true m (subst (λ r. cases.Acts rules.ratio r true m) i.0 acts)
-  named_here m (cases.Ended may over) = never may
-  named_here m (cases.Rested quiet unended) = λ n none. absurd none
+  named_here may_end m (cases.Ended may over) = λ n none. absurd none
+  named_here may_end m (cases.Rested quiet unended) = λ n none. absurd none
 
   -- ---- where all jobs are over, the open step is silent
 
@@ -219,39 +222,39 @@ module _ (processors : ℕ) (J : Instance) (valid : IsValid J) (some : 1 ≤ pro
 
 -- ---- jobs behind are left alone
 
--- an event that doesn't name a job to come leaves it
-event_behind : (q : ℕ) (e : Event) (p : Placed) → p.task.role ≡ Coming → Each (λ n. p.task.number ≡ n → ⊥) (names_of e)
-    → placed_after q e p ≡ p
-event_behind q (Release n job) p coming apart = by_test (eqb p.task.number n) refl where
+-- an event leaves a job on no processor that it doesn't name
+pub event_behind : (q : ℕ) (e : Event) (p : Placed) → is_privileged p.task ≡ false
+    → Each (λ n. p.task.number ≡ n → ⊥) (names_of e) → placed_after q e p ≡ p
+event_behind q (Release n job) p off apart = by_test (eqb p.task.number n) refl where
   by_test : (b : Bool) → eqb p.task.number n ≡ b → cond b (in_role p Fresh) p ≡ p
   by_test true same = absurd (apart n (inl refl) (eqb-true _ _ same))
   by_test false other = refl
-event_behind q (Run at n) p coming apart = by_test (eqb p.task.number n) refl where
+event_behind q (Run at n) p off apart = by_test (eqb p.task.number n) refl where
   by_test : (b : Bool) → eqb p.task.number n ≡ b → cond b (placed_on q p) p ≡ p
   by_test true same = absurd (apart n (inl refl) (eqb-true _ _ same))
   by_test false other = refl
-event_behind q (Preempt at r n) p coming apart = by_test (eqb p.task.number n) (eqb p.task.number r) refl refl where
+event_behind q (Preempt at r n) p off apart = by_test (eqb p.task.number n) (eqb p.task.number r) refl refl where
   by_test : (b c : Bool) → eqb p.task.number n ≡ b → eqb p.task.number r ≡ c
       → cond b (placed_on q p) (cond c (in_role p Held) p) ≡ p
   by_test true c same other = absurd (apart n (inl refl) (eqb-true _ _ same))
   by_test false true other same = absurd (apart r (inr (inl refl)) (eqb-true _ _ same))
   by_test false false other others = refl
-event_behind q (Take at r n) p coming apart = by_test (eqb p.task.number n) (is_own_of q p) refl
-    (ap (λ b. b && p.owner == q) (passes is_privileged p.task Coming false coming refl)) where
+event_behind q (Take at r n) p off apart = by_test (eqb p.task.number n) (is_own_of q p) refl
+    (ap (λ b. b && p.owner == q) off) where
       by_test : (b c : Bool) → eqb p.task.number n ≡ b → c ≡ false
           → cond b (placed_on q p) (cond c (in_role p Waiting) p) ≡ p
-      by_test true c same off = absurd (apart n (inl refl) (eqb-true _ _ same))
-      by_test false true other off = never (sym off)
-      by_test false false other off = refl
-event_behind q (Complete at n) p coming apart = by_test (eqb p.task.number n) refl where
+      by_test true c same none = absurd (apart n (inl refl) (eqb-true _ _ same))
+      by_test false true other none = never (sym none)
+      by_test false false other none = refl
+event_behind q (Complete at n) p off apart = by_test (eqb p.task.number n) refl where
   by_test : (b : Bool) → eqb p.task.number n ≡ b → cond b (in_role p Done) p ≡ p
   by_test true same = absurd (apart n (inl refl) (eqb-true _ _ same))
   by_test false other = refl
-event_behind q (Abandon at n) p coming apart = by_test (eqb p.task.number n) refl where
+event_behind q (Abandon at n) p off apart = by_test (eqb p.task.number n) refl where
   by_test : (b : Bool) → eqb p.task.number n ≡ b → cond b (in_role p Gone) p ≡ p
   by_test true same = absurd (apart n (inl refl) (eqb-true _ _ same))
   by_test false other = refl
-event_behind q (End value) p coming apart = refl
+event_behind q (End value) p off apart = refl
 
 -- what is pressed doesn't look at jobs to come
 pressed_front : (e : Event) (pressed : Bool) (tasks more : List Task) → Each (λ t. t.role ≡ Coming) more
@@ -277,7 +280,8 @@ module _ (s : State) (more : List Placed) (coming : Each (λ p. p.task.role ≡ 
       → after (with_later s more) m ≡ with_later (after s m) more
   after_later (Prints q e) apart =
       ap (λ js. record { clock = s.clock; jobs = js; pressed = pressed_after e s.pressed (tasks_of js) })
-      (changed_front (placed_after q e) (λ p member. event_behind q e p (coming p member) (apart p member)))
+      (changed_front (placed_after q e) (λ p member. event_behind q e p
+      (passes is_privileged p.task Coming false (coming p member) refl) (apart p member)))
       ∙ ap (λ b. record { clock = s.clock; jobs = map (placed_after q e) s.jobs ++ more; pressed = b })
       (ap (pressed_after e s.pressed) (map-append (λ (p : Placed). p.task) (map (placed_after q e) s.jobs) more)
       ∙ pressed_front e s.pressed (tasks_of (map (placed_after q e) s.jobs)) (tasks_of more)
@@ -359,7 +363,7 @@ module _ (processors : ℕ) (some : 1 ≤ processors) (J : Instance) (valid : Is
     -- no job behind has the number of one in front
     apart : Each (λ p. Each (λ n. p.task.number ≡ n → ⊥) (named_by (open_step processors rules s))) more
     apart p member n named same =
-        let x = named_here processors J valid some rules s keeps (open_step processors rules s)
+        let x = named_here processors J valid some rules s keeps false (open_step processors rules s)
         (open_here processors some J valid rules mark s) n named in
         two_lists 0 s.jobs more (tasks_numbered processors K (with_later s more) keeps_more) x.0 p x.1 member
         (x.2 ∙ sym same) where

@@ -62,7 +62,7 @@ module _ (processors : ℕ) (J : Instance) (valid : IsValid J) (some : 1 ≤ pro
       (passes is_privileged p.task Fresh false fresh refl))) ∙ passes is_fresh p.task Fresh true fresh refl)
 
   -- at a late step none is
-  late_none_fresh : (m : Move) → StepCase false rules s all m → waits_for_mark m ≡ true
+  pub late_none_fresh : (m : Move) → StepCase false rules s all m → waits_for_mark m ≡ true
       → Each (λ p. p.task.role ≡ Fresh → ⊥) s.jobs
   late_none_fresh m (cases.Completed q member t runs finished) waits = never waits
   late_none_fresh m (cases.Acted q member n acts going decided) waits = none_fresh_seen q member

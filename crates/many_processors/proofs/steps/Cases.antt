@@ -31,7 +31,7 @@ use Rattle.many_processors.proofs.steps.Seeing.{Sees, whole}
 -- ---- answers
 
 -- there is an answer, or something else is done
-or_split : {X : Type 0} (o : Option X) (other m : X) → (o or_else other) ≡ m
+pub or_split : {X : Type 0} (o : Option X) (other m : X) → (o or_else other) ≡ m
     → (o ≡ Some m) ⊎ ((o ≡ None) × (other ≡ m))
 or_split None other m is = inr (refl, is)
 or_split (Some x) other m is = inl (ap Some is)
@@ -496,7 +496,7 @@ module _ (rules : Rules) (s : State) (all : List Seen) (sees : Each (Sees rules.
         ∙ dispatch_none rules.ratio it.0 one.1 here
 
   -- who decides is one of them
-  deciding_member : (q : Seen) → deciding all ≡ Some q → IsMember q all
+  pub deciding_member : (q : Seen) → deciding all ≡ Some q → IsMember q all
   deciding_member q is = by_either (try_split (free_one all)
       (first runs_longer (filter is_preempted all) or_try front all) q is) where
         by_other : (first runs_longer (filter is_preempted all) ≡ Some q)

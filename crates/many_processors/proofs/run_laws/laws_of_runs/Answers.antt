@@ -2,7 +2,7 @@ use Rattle.many_processors.proofs.steps.Turns.{opening_kept, step_kept}
 use Rattle.many_processors.proofs.runs.EachStep.{each_step, busy_where_one_waits, busy_where_one_is_held}
 use Rattle.many_processors.proofs.runs.RunEnds.{run_ends, few_printed}
 use Rattle.many_processors.proofs.runs.Balance.{as_many}
-use Rattle.many_processors.proofs.runs.Once.{preempts_once}
+use Rattle.many_processors.proofs.runs.Once.{preempts_once, takes_once}
 use Rattle.many_processors.proofs.runs.RanFor.{ran_for}
 use Rattle.many_processors.proofs.runs.Honest.{ran_different, named_in_window, honest, done_finished, observed_all}
 use Rattle.std.proofs.Common.{◌≡◌, ℕ, ◌<◌, ◌⊎◌, true, false, refl}
@@ -29,6 +29,9 @@ returns-clause-few_steps c processors J some valid = few_printed processors J va
 
 pub returns-clause-preempts_once : goal.returns-clause-preempts_once
 returns-clause-preempts_once c processors J n some valid = preempts_once processors J valid some n
+
+pub returns-clause-takes_once : goal.returns-clause-takes_once
+returns-clause-takes_once c processors J n some valid = takes_once processors J valid some n
 
 pub returns-clause-as_many_runs : goal.returns-clause-as_many_runs
 returns-clause-as_many_runs c processors J some valid = as_many processors J valid some

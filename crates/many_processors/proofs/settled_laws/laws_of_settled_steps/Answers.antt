@@ -3,6 +3,7 @@ use Rattle.many_processors.proofs.settled.Finishes.{further_begins, further_prin
 use Rattle.many_processors.proofs.settled.Finishes.{alike_same, alike_state, order_alike}
 use Rattle.many_processors.proofs.settled.AtMark.{stays_at_mark, next_at_mark}
 use Rattle.many_processors.proofs.settled.Later.{same_step}
+use Rattle.many_processors.proofs.settled.Meeting.{on_line_finishes}
 use Rattle.many_processors.proofs.settled.Onlines.{on_line}
 use Rattle.many_processors.proofs.settled.Prefixes.{settled_prefix, printed_prefix}
 use Rattle.many_processors.proofs.settled.Settling.{settled_is_run, settled_at_barrier}
@@ -44,6 +45,10 @@ returns-clause-at_the_end c processors J more mark some valid late =
 pub returns-clause-on_line : goal.returns-clause-on_line
 returns-clause-on_line c processors t J K some valid_J valid_K rules known =
     on_line processors t some J K valid_J valid_K rules known
+
+pub returns-clause-on_line_with_finishes : goal.returns-clause-on_line_with_finishes
+returns-clause-on_line_with_finishes c processors t J K some valid_J valid_K rules known finishes =
+    on_line_finishes processors t some J K valid_J valid_K rules known finishes
 
 pub returns-clause-further_while_open : goal.returns-clause-further_while_open
 returns-clause-further_while_open c processors J more mark mark2 some valid later none =
