@@ -1,0 +1,2 @@
+pub mod Demanded
+pub mod Looks
