@@ -2,7 +2,7 @@
 use Rattle.std.specs.Prelude.{◌≡◌, ◌≤◌, ◌<◌, ℕ, ◌+◌, ◌-◌, ◌*◌, ◌/◌, ◌^◌, List, map, length}
 use Rattle.std.specs.Int.{div_ceil}
 use Rattle.std.specs.List.{sum_by}
-use Rattle.dover_model.specs.Limits.{most_work, most_jobs}
+use Rattle.dover_model.specs.Limits.{last_tick_in, most_work, most_jobs}
 use Rattle.dover_model.specs.declared.events.Version.TheVariants.{Two}
 use Rattle.task_laws.specs.Demand.{TaskFacts, demand, AreMet}
 use Rattle.task_words.specs.budget.Budgets.{task_at}
@@ -49,8 +49,9 @@ Tells tasks Size = (horizon : ℕ) → IsHorizon tasks (2 ^ 64) horizon → most
 
 -- ---- which tasks may be asked about
 
--- few tasks, each with a period, and with no more work than a job may have
+-- few tasks, each with a period, and with no more work and no later a deadline than a job may have
 pub record AreLimited (tasks : List PeriodicTask) : Type 0 where
   pub few : length tasks ≤ most_jobs Two
   pub period : (y : ℕ) → y < length tasks → 1 ≤ (task_at tasks y).period
   pub work : (y : ℕ) → y < length tasks → (task_at tasks y).work ≤ most_work
+  pub due : (y : ℕ) → y < length tasks → (task_at tasks y).deadline ≤ last_tick_in Two

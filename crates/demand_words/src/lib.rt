@@ -3,6 +3,7 @@
 
 mod answers;
 mod looking;
+mod periods;
 mod shares;
 mod testing;
 

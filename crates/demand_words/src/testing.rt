@@ -1,9 +1,11 @@
 //! The demand test.
-ghost use Rattle.std.specs.Prelude.{◌≡◌, length};
+ghost use Rattle.std.specs.Prelude.{◌≡◌, ◌^◌, length};
 ghost use Rattle.demand_words.specs.Demanded.{AreLimited, Tells, all_facts, most_looks};
+ghost use Rattle.demand_words.specs.Looks.{TellsBelow};
 
 use crate::answers::Demand;
 use crate::looking::look_down;
+use crate::periods::{common_period, last_deadline};
 use crate::shares::{Told, told_by_shares};
 use task_words::tasks::PeriodicTask;
 
@@ -21,6 +23,24 @@ fn most_looks(tasks: &[PeriodicTask]) -> u64
     MOST_STEPS / (tasks.len() as u64 + 1)
 }
 
+/// The test by shares in parts of a common multiple of the periods, which are exact.
+fn exact_test(tasks: &[PeriodicTask]) -> Demand
+    requires { AreLimited tasks.now }
+    ensures { TellsBelow (all_facts tasks.now) (2 ^ 64) (most_looks (length tasks.now)) result }
+{
+    let Some(period) = common_period(tasks) else {
+        return Demand::Size;
+    };
+    match told_by_shares(tasks, u128::from(period)) {
+        Told::Over => Demand::Over,
+        Told::Horizon(horizon) => look_down(tasks, horizon, most_looks(tasks)),
+        Told::Unknown => {
+            let horizon = last_deadline(tasks) + period + 1;
+            look_down(tasks, horizon, most_looks(tasks))
+        }
+    }
+}
+
 /// Whether a window can have more work in it than ticks, where the jobs of each task come a period apart or more, at
 /// any ticks. It takes some steps for each task in each look, and no memory.
 pub fn demand_test(tasks: &[PeriodicTask]) -> Demand
@@ -30,6 +50,6 @@ pub fn demand_test(tasks: &[PeriodicTask]) -> Demand
     match told_by_shares(tasks, WHOLE) {
         Told::Over => Demand::Over,
         Told::Horizon(horizon) => look_down(tasks, horizon, most_looks(tasks)),
-        Told::Unknown => Demand::Size,
+        Told::Unknown => exact_test(tasks),
     }
 }
