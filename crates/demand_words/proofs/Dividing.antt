@@ -1,13 +1,12 @@
 -- Common multiples of the periods.
-use Rattle.std.proofs.Common.{◌≡◌, ℕ, suc, zero, ◌+◌, ◌-◌, ◌*◌, ◌/◌, ◌≤◌, ◌<◌, ◌⊎◌, inl, inr, List, length, sym, ap, ◌∙◌}
+use Rattle.std.proofs.Common.{◌≡◌, ℕ, suc, zero, ◌+◌, ◌*◌, ◌/◌, ◌≤◌, ◌<◌, List, length, sym, ap, ◌∙◌}
 use Rattle.std.proofs.Common.{subst, arith, sum_by}
 use Rattle.std.specs.Int.{IsGcd, ◌∣◌}
-use Rattle.std.proofs.lemmas.Bool.{cases_lt}
 use Rattle.std.proofs.lemmas.Nat.{le-div}
 use Rattle.std.proofs.Math.Nat.{div-mul_cancel, dvd-mul_left, dvd-mul_right}
-use Rattle.dover_model.specs.Common.{Each, IsMember}
+use Rattle.dover_model.specs.Common.{Each}
 use Rattle.dover_model.proofs.lists.Members.{sum_le}
-use Rattle.task_laws.specs.Demand.{TaskFacts, demand, AreMet}
+use Rattle.task_laws.specs.Demand.{demand, AreMet}
 use Rattle.task_laws.proofs.demand.Demanding.{period_tells}
 use Rattle.task_words.specs.budget.Budgets.{task_at}
 use Rattle.task_words.specs.declared.tasks.task.PeriodicTask.{PeriodicTask}

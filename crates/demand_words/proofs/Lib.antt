@@ -1,3 +1,4 @@
 pub mod Sharing
 pub mod Sizes
 pub mod Dividing
+pub mod Limited

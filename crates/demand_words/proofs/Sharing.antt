@@ -1,16 +1,12 @@
 -- Shares of the processor, and what they tell of all windows.
-use Rattle.std.proofs.Common.{◌≡◌, ℕ, suc, zero, ◌+◌, ◌-◌, ◌*◌, ◌/◌, ◌≤◌, ◌<◌, ◌^◌, ◌⊎◌, inl, inr, List, [], ◌∷◌, length}
-use Rattle.std.proofs.Common.{refl, sym, ap, ◌∙◌, subst, Bool, true, false, cond, arith, nat_le, sum_by, get_or, map, take}
+use Rattle.std.proofs.Common.{◌≡◌, ℕ, suc, zero, ◌+◌, ◌-◌, ◌*◌, ◌/◌, ◌≤◌, ◌<◌, inl, inr, List, [], ◌∷◌, length}
+use Rattle.std.proofs.Common.{refl, sym, ap, subst, Bool, true, false, cond, arith, nat_le, sum_by}
 use Rattle.std.proofs.Common.{leb-true, leb-false}
-use Rattle.std.specs.Int.{div_ceil}
-use Rattle.std.proofs.lemmas.Bool.{cases_lt}
 use Rattle.std.proofs.lemmas.Grind.{div_ceil_times}
 use Rattle.std.proofs.lemmas.List.Sums.{sum_by-cons}
-use Rattle.std.proofs.lemmas.Nat.{mul-le, le-div}
 use Rattle.std.proofs.Math.Nat.{mul-le-mul_left, le_of_mul-le-mul_left, mul-div-le, mul-le-mul_right}
-use Rattle.dover_model.specs.Common.{Each, IsMember}
-use Rattle.dover_model.proofs.lists.Members.{sum_map}
-use Rattle.task_laws.specs.Demand.{TaskFacts, jobs_within, demand, AreMet, AreShares}
+use Rattle.dover_model.specs.Common.{Each}
+use Rattle.task_laws.specs.Demand.{TaskFacts, jobs_within, demand, AreMet}
 use Rattle.task_laws.proofs.demand.Demanding.{horizon_tells}
 use Rattle.task_words.specs.budget.Budgets.{task_at}
 use Rattle.task_words.specs.declared.tasks.task.PeriodicTask.{PeriodicTask}

@@ -1,2 +1,3 @@
 pub mod Demanded
 pub mod Looks
+pub mod Says

@@ -1,5 +1,5 @@
 use Rattle.std.proofs.lemmas.Nat.Gcd.{IsGcd-from_zero, IsGcd-from_mod}
-use Rattle.std.proofs.Common.{arith, ◌≡◌}
+use Rattle.std.proofs.Common.{arith}
 use Rattle.demand_words.proofs.periods.common_divisor.Goals as goal
 
 pub loop-second-preserved : goal.loop-second-preserved

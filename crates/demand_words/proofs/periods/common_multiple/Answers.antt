@@ -1,4 +1,4 @@
-use Rattle.std.proofs.Common.{◌≡◌, ◌≤◌, ◌*◌, ◌/◌, sym, subst}
+use Rattle.std.proofs.Common.{◌≤◌, ◌/◌, sym, subst}
 use Rattle.std.specs.Int.{◌∣◌}
 use Rattle.demand_words.proofs.Dividing.{some_divisor, first_divides, second_divides, some_multiple}
 use Rattle.demand_words.proofs.Sizes.{product}

@@ -1,4 +1,4 @@
-use Rattle.std.proofs.Common.{◌≡◌, ◌≤◌, ◌*◌, ◌-◌, ◌^◌, ◌∙◌, arith}
+use Rattle.std.proofs.Common.{◌-◌, ◌∙◌, arith}
 use Rattle.demand_words.specs.Demanded.{facts, share}
 use Rattle.demand_words.proofs.Sizes.{product, few_beyond}
 use Rattle.demand_words.proofs.shares.beyond.Goals as goal

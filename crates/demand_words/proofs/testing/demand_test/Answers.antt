@@ -1,4 +1,4 @@
-use Rattle.std.proofs.Common.{◌^◌, ◌≤◌, arith}
+use Rattle.std.proofs.Common.{◌^◌, arith}
 use Rattle.demand_words.proofs.Sharing.{tells}
 use Rattle.demand_words.proofs.testing.demand_test.Goals as goal
 

@@ -1,4 +1,4 @@
-use Rattle.std.proofs.Common.{◌≡◌, ◌≤◌, ◌*◌, ◌/◌, arith, subst, sum_by}
+use Rattle.std.proofs.Common.{◌≤◌, ◌*◌, ◌/◌, arith, subst, sum_by}
 use Rattle.demand_words.specs.Demanded.{all_facts}
 use Rattle.demand_words.proofs.Dividing.{period_is}
 use Rattle.demand_words.proofs.Sharing.{tells}
