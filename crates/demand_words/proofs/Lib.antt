@@ -2,3 +2,4 @@ pub mod Sharing
 pub mod Sizes
 pub mod Dividing
 pub mod Limited
+pub mod Talking

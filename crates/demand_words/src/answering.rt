@@ -50,7 +50,7 @@ fn put_told<P: Port>(port: &mut P, out: &mut Output, told: Demand) -> Result<(),
 /// come a period apart or more, at any ticks: `met`, with the status `Done`; `window L W`, a window of L ticks in which
 /// they can ask for W, or `over`, more than one tick of work a tick in the long run, with the status `No`; or that the
 /// test would take too long, `refused size`. It takes no memory.
-pub fn answer<P: Port>(
+pub(crate) fn answer<P: Port>(
     port: &mut P,
     out: &mut Output,
     tasks: &[PeriodicTask],
