@@ -1,0 +1,4 @@
+pub mod Demanded
+pub mod Looks
+pub mod Says
+pub mod Talk
