@@ -4,7 +4,4 @@ pub mod Ended
 pub mod Offering
 pub mod Puts
 pub mod Said
-pub mod Seeking
-pub mod Spread
 pub mod Taking
-pub mod Widened

@@ -9,8 +9,8 @@ use Rattle.dover_model.specs.declared.events.Version.TheVariants.{Three}
 use Rattle.dover_model.specs.Common.{Declaration as Rules, Faulty, IsJob, JobFacts, Open, is_job, job_of_numbers}
 use Rattle.dover_model.specs.Common.{last_tick_in, most_jobs}
 use Rattle.dover_model.specs.Feed as feed
-use Rattle.ratio_word.specs.Extremes.{AreExtremes}
-use Rattle.ratio_word.specs.declared.extremes.Extremes.{Extremes}
+use Rattle.admission.specs.Kept.{AreExtremes}
+use Rattle.admission.specs.declared.extremes.Extremes.{Extremes}
 use Rattle.event_feed.specs.Kept.{cause_of_fault}
 use Rattle.event_feed.specs.declared.faults.Cause.{Cause}
 use Rattle.event_feed.specs.declared.faults.Cause.TheVariants as cause
@@ -60,13 +60,13 @@ fine version count j job due few =
 -- what is kept of the jobs with one more
 pub kept_more : (old new : Declaration) (rules : Rules) (jobs : List JobFacts) (j : JobFacts) (e : Extremes)
     → KeepsDeclared old rules jobs → old.count < most_jobs Three → new.ratio ≡ old.ratio → new.version ≡ old.version
-    → new.count ≡ old.count + 1 → new.extremes ≡ Some e → AreExtremes (jobs ++ j ∷ []) e
+    → new.count ≡ old.count + 1 → new.extremes ≡ Some e → AreExtremes old.ratio (jobs ++ j ∷ []) e
     → KeepsDeclared new rules (jobs ++ j ∷ [])
 kept_more old new rules jobs j e keeps few ratio version count extremes it = record {
   rules_are = rw (ratio, version) keeps.rules_are;
   count = omega (arith, keeps.count, count, length-append jobs (j ∷ []));
   few = omega (arith, count, few);
-  extremes = rw extremes it;
+  extremes = rw (ratio, extremes) it;
 }
 
 -- ---- a line that offers a job

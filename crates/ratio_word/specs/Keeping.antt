@@ -8,7 +8,7 @@ use Rattle.event_feed.specs.declared.faults.Cause.{Cause}
 use Rattle.dover_model.specs.Feed as feed
 use Rattle.task_words.specs.reading.Account.{rules_of_line}
 use Rattle.task_words.specs.declared.reading.lines.TaskLine.TheVariants.{Declared, Factored, Task, End}
-use Rattle.ratio_word.specs.Extremes.{HasExtremes}
+use Rattle.admission.specs.Kept.{HasExtremes}
 use Rattle.ratio_word.specs.Account.{TextAccount, account_of_lines, job_cause, with_fault, with_job}
 use Rattle.ratio_word.specs.declared.intake.Declaration.{Declaration}
 use Rattle.ratio_word.specs.declared.intake.Intake.{Intake}
@@ -22,7 +22,7 @@ pub record KeepsDeclared (d : Declaration) (rules : Rules) (jobs : List JobFacts
   pub rules_are : rules ≡ rules_with d.ratio d.version
   pub count : d.count ≡ length jobs
   pub few : d.count ≤ most_jobs Three
-  pub extremes : HasExtremes jobs d.extremes
+  pub extremes : HasExtremes d.ratio jobs d.extremes
 
 -- the same, where there may be no ratio line yet, and then there is no job
 abbrev pub KeepsRules : Option Declaration → Option Rules → List JobFacts → Type 0

@@ -7,9 +7,8 @@ use Rattle.dover_port.specs.declared.status.Status.TheVariants.{Done, No}
 use Rattle.admission.specs.Kept.{IsDensest, IsLeastDense}
 use Rattle.admission.specs.declared.extremes.Numbered.{Numbered}
 use Rattle.event_feed.specs.Feeds.{rules_text}
-use Rattle.ratio_word.specs.Extremes.{numbered}
-use Rattle.ratio_word.specs.declared.extremes.Extremes.{Extremes}
-use Rattle.ratio_word.specs.Least.{AllKeep, IsLeast}
+use Rattle.admission.specs.declared.extremes.Extremes.{Extremes}
+use Rattle.admission.specs.Least.{AllKeep, IsLeast}
 
 -- the line of a job behind a word: its number, its value and its work
 abbrev pub job_line : List ℕ → Numbered → List ℕ
@@ -25,7 +24,7 @@ AreExtremeLines jobs ls = ((jobs ≡ []) × (ls ≡ []))
 abbrev pub extreme_lines : Option Extremes → List (List ℕ)
 extreme_lines None = []
 extreme_lines (Some e) =
-    job_line (codes "least") (numbered e.least) ∷ job_line (codes "densest") (numbered e.densest) ∷ []
+    job_line (codes "least") e.least ∷ job_line (codes "densest") e.densest ∷ []
 
 -- what a run is to complete for which the bound is told
 abbrev pub told : ℕ

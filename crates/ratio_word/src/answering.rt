@@ -5,13 +5,11 @@ ghost use Rattle.dover_model.specs.Common.{Declaration as Rules, JobFacts, in_li
 ghost use Rattle.dover_port.specs.Causes.{HasCause, StopsAtFailure};
 ghost use Rattle.dover_port.specs.Moves.{PutsThrough};
 ghost use Rattle.event_feed.specs.Feeds.{rules_text};
-ghost use Rattle.ratio_word.specs.Extremes.{numbered};
 ghost use Rattle.ratio_word.specs.Keeping.{KeepsDeclared};
 ghost use Rattle.ratio_word.specs.Says.{SaysRatio, bound_line, extreme_lines, job_line};
 
-use crate::extremes::{Extremes, Found};
-use crate::finding::find;
 use crate::intake::Declaration;
+use admission::{Extremes, Numbered, least_kept};
 use dialogue::Stop;
 use dialogue::lines::{put_numbers, put_rules};
 use dover_model::{Ratio, Version};
@@ -22,10 +20,10 @@ use root_compare::long_bound;
 const TOLD: u64 = 1_000_000;
 
 /// Puts the line of a job behind a word.
-fn put_job<P: Port>(port: &mut P, out: &mut Output, word: &[u8], x: &Found) -> Result<(), Failed>
+fn put_job<P: Port>(port: &mut P, out: &mut Output, word: &[u8], x: &Numbered) -> Result<(), Failed>
     requires { length word.now ≤ 8 }
     ensures text { PutsThrough (P.moves port.old) (P.moves port.new) result out.old out.new
-        (job_line word.now (numbered x.now) ++ 10 ∷ []) }
+        (job_line word.now x.now ++ 10 ∷ []) }
     ensures cause { HasCause (P.write_faults port.old) (P.write_faults port.new) (P.read_faults port.old)
         (P.read_faults port.new) result }
     ensures stops { StopsAtFailure (P.calls port.old) (P.calls port.new) result }
@@ -125,7 +123,7 @@ pub(crate) fn answer<P: Port>(
         (P.write_faults port.old) (P.write_faults port.new) (P.read_faults port.old) (P.read_faults port.new) }
     ensures stops { StopsOn result (P.calls port.old) (P.calls port.new) }
 {
-    match find(declared) {
+    match least_kept(&declared.extremes, &declared.ratio) {
         Some(k) => match put_found(port, out, (k, declared.version), &declared.extremes) {
             Ok(()) => Ok(Status::Done),
             Err(_) => Err(Stop::Unwritten),

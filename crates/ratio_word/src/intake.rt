@@ -14,9 +14,9 @@ ghost use Rattle.ratio_word.specs.declared.lines.TextLine.TheVariants as line;
 ghost use Rattle.task_words.specs.declared.reading.lines.TaskLine.TheVariants as plain;
 ghost use Rattle.ratio_word.specs.declared.intake.Progress.TheVariants as progress;
 
-use crate::extremes::{Extremes, Found};
 use crate::line_reading::read_text_line;
 use crate::lines::TextLine;
+use admission::{Extremes, Numbered};
 use dover_model::{Job, Ratio, Version};
 use event_feed::{Cause, declared, declared_with_factor};
 use task_words::reading::TaskLine;
@@ -56,13 +56,13 @@ impl Declaration {
         ensures { (rules : Rules) (jobs : List JobFacts) → KeepsDeclared self.old rules jobs →
             KeepsDeclared self.new rules (jobs ++ job ∷ []) }
     {
-        let next = Found {
+        let next = Numbered {
             number: self.count,
             job,
         };
         match &mut self.extremes {
-            Some(extremes) => extremes.add(&next),
-            None => self.extremes = Some(Extremes::of(next)),
+            Some(extremes) => extremes.add(&self.ratio, &next),
+            None => self.extremes = Some(Extremes::of(&self.ratio, next)),
         }
         self.count += 1;
     }

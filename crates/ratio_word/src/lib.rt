@@ -2,10 +2,7 @@
 #![tactic(auto)]
 
 mod answering;
-mod extremes;
-mod finding;
 mod intake;
-mod least;
 mod line_reading;
 mod lines;
 mod reading;

@@ -1,7 +1,7 @@
 //! The least ratio that is at least a fraction.
 ghost use Rattle.std.specs.Prelude.{◌≡◌, ◌≤◌, ◌<◌, ◌*◌, ◌+◌, ◌^◌, ℕ};
 ghost use Rattle.dover_model.specs.Common.{most_p, most_q};
-ghost use Rattle.ratio_word.specs.Least.{StandsBelow, Suffices};
+ghost use Rattle.admission.specs.Least.{StandsBelow, Suffices};
 
 use dover_model::ratios::{MOST_P, MOST_Q};
 

@@ -1,7 +1,7 @@
 use Rattle.std.proofs.Common.{arith, subst}
-use Rattle.ratio_word.specs.Least.{StandsBelow}
-use Rattle.ratio_word.proofs.Seeking.{lesser_stands}
-use Rattle.ratio_word.proofs.least.with_next.Goals as goal
+use Rattle.admission.specs.Least.{StandsBelow}
+use Rattle.admission.proofs.Seeking.{lesser_stands}
+use Rattle.admission.proofs.least.with_next.Goals as goal
 
 pub returns-in-Some : goal.returns-in-Some
 returns-in-Some c = let p = c.least_numerator-p in

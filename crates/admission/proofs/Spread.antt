@@ -8,14 +8,13 @@ use Rattle.dover_model.proofs.bound.Calculus.{cancel}
 use Rattle.dover_model.proofs.lists.Members.{all_member, member_behind}
 use Rattle.dover_model.proofs.valid.JobLimits.{JobLimits, job_limits, ratio_from, ratio_limits}
 use Rattle.dover_model.proofs.valid.ValidParts.{is_within_ratio-agrees}
-use Rattle.admission.specs.Kept.{IsFirstBy, IsLessDense}
-use Rattle.ratio_word.specs.Extremes.{AreExtremes, numbered}
-use Rattle.ratio_word.specs.declared.extremes.Extremes.{Extremes}
+use Rattle.admission.specs.Kept.{AreExtremes, IsFirstBy, IsLessDense}
+use Rattle.admission.specs.declared.extremes.Extremes.{Extremes}
 use Rattle.admission.specs.declared.extremes.Numbered.{Numbered}
 use Rattle.admission.proofs.Comparing.{no_less, not_both, within_densest, within_least}
 use Rattle.admission.proofs.Firsts.{IsDenser, first_is, none_under, not_both_denser}
-use Rattle.ratio_word.specs.Least.{AllKeep, IsCandidate, IsLeast, IsLeastBelow, IsSpread, StandsBelow, Suffices}
-use Rattle.ratio_word.specs.declared.least.Pair.{Pair}
+use Rattle.admission.specs.Least.{AllKeep, IsCandidate, IsLeast, IsLeastBelow, IsSpread, StandsBelow, Suffices}
+use Rattle.admission.specs.declared.least.Pair.{Pair}
 
 -- the first by an order is one of the jobs
 first_member : (Under : JobFacts → JobFacts → Type 0) (jobs : List JobFacts) (x : Numbered) → IsFirstBy Under jobs x
@@ -23,7 +22,7 @@ first_member : (Under : JobFacts → JobFacts → Type 0) (jobs : List JobFacts)
 first_member Under jobs x it =
     subst (IsMember x.job) (sym it.place) (member_behind it.before (x.job ∷ it.behind) x.job (inl refl))
 
-module _ (jobs : List JobFacts) (e : Extremes) (it : AreExtremes jobs e) where
+module _ (k : Fraction) (jobs : List JobFacts) (e : Extremes) (it : AreExtremes k jobs e) where
   -- the two jobs
   abbrev least : JobFacts
   least = e.least.job
@@ -32,51 +31,51 @@ module _ (jobs : List JobFacts) (e : Extremes) (it : AreExtremes jobs e) where
   densest = e.densest.job
 
   least_limits : JobLimits least
-  least_limits = job_limits (first_is IsLessDense not_both jobs (numbered e.least) it.least IsJob it.each)
+  least_limits = job_limits (first_is IsLessDense not_both jobs e.least it.least IsJob it.each)
 
   densest_limits : JobLimits densest
-  densest_limits = job_limits (first_is IsDenser not_both_denser jobs (numbered e.densest) it.densest IsJob it.each)
+  densest_limits = job_limits (first_is IsDenser not_both_denser jobs e.densest it.densest IsJob it.each)
 
   -- a job is no less dense than the one, and no denser than the other
   above : (j : JobFacts) → IsMember j jobs → least.value * j.work ≤ j.value * least.work
   above j member = no_less j least
       (all_member (λ i. IsLessDense i least → ⊥) jobs
-      (none_under IsLessDense not_both jobs (numbered e.least) it.least) j member)
+      (none_under IsLessDense not_both jobs e.least it.least) j member)
 
   under : (i : JobFacts) → IsMember i jobs → i.value * densest.work ≤ densest.value * i.work
   under i member = no_less densest i
       (all_member (λ j. IsDenser j densest → ⊥) jobs
-      (none_under IsDenser not_both_denser jobs (numbered e.densest) it.densest) i member)
+      (none_under IsDenser not_both_denser jobs e.densest it.densest) i member)
 
   -- what the two keep all keep
-  all_of_two : (k : Fraction) → Suffices (densest.value * least.work) (least.value * densest.work) k.p k.q
-      → AllKeep k jobs
-  all_of_two k enough i j i_member j_member = (is_within_ratio-agrees k i j).1
-      (within_least k.p k.q i.value i.work least.value least.work j.value j.work least_limits.work (above j j_member)
-      (within_densest k.p k.q least.value least.work densest.value densest.work i.value i.work densest_limits.work
+  all_of_two : (r : Fraction) → Suffices (densest.value * least.work) (least.value * densest.work) r.p r.q
+      → AllKeep r jobs
+  all_of_two r enough i j i_member j_member = (is_within_ratio-agrees r i j).1
+      (within_least r.p r.q i.value i.work least.value least.work j.value j.work least_limits.work (above j j_member)
+      (within_densest r.p r.q least.value least.work densest.value densest.work i.value i.work densest_limits.work
       (under i i_member) (omega (arith, enough))))
 
   -- what all keep the two keep
-  two_of_all : (k : Fraction) → AllKeep k jobs
-      → Suffices (densest.value * least.work) (least.value * densest.work) k.p k.q
-  two_of_all k keep =
-      let within : k.q * densest.value * least.work ≤ k.p * least.value * densest.work =
-      (is_within_ratio-agrees k densest least).0 (keep densest least
-      (first_member IsDenser jobs (numbered e.densest) it.densest)
-      (first_member IsLessDense jobs (numbered e.least) it.least)) in
+  two_of_all : (r : Fraction) → AllKeep r jobs
+      → Suffices (densest.value * least.work) (least.value * densest.work) r.p r.q
+  two_of_all r keep =
+      let within : r.q * densest.value * least.work ≤ r.p * least.value * densest.work =
+      (is_within_ratio-agrees r densest least).0 (keep densest least
+      (first_member IsDenser jobs e.densest it.densest)
+      (first_member IsLessDense jobs e.least it.least)) in
       omega (arith, within)
 
   -- the fraction of their densities is a spread
   pub spread_of : IsSpread jobs (densest.value * least.work) (least.value * densest.work)
   spread_of = record {
     some = mul-le 1 1 least.value densest.work least_limits.worth densest_limits.work;
-    order = above densest (first_member IsDenser jobs (numbered e.densest) it.densest);
+    order = above densest (first_member IsDenser jobs e.densest it.densest);
     size =
         let most : densest.value * least.work ≤ 1_000_000_000 * 1_000_000_000_000 =
         mul-le densest.value least.work 1_000_000_000 1_000_000_000_000 densest_limits.modest
         least_limits.small in omega (arith, most);
     enough = all_of_two;
-    needed = λ k ratio keep. two_of_all k keep;
+    needed = λ r ratio keep. two_of_all r keep;
   }
 
 -- ---- the least ratio

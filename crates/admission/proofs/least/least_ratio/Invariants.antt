@@ -1,5 +1,5 @@
-use Rattle.ratio_word.specs.Least.{StandsBelow}
-use Rattle.ratio_word.proofs.least.least_ratio.Given as goal
+use Rattle.admission.specs.Least.{StandsBelow}
+use Rattle.admission.proofs.least.least_ratio.Given as goal
 
 -- the least with the denominators so far
 abbrev pub invariant-loop-q : goal.invariant-loop-q

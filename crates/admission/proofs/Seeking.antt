@@ -4,8 +4,8 @@ use Rattle.std.proofs.lemmas.Bool.{cases_lt}
 use Rattle.std.proofs.lemmas.Nat.{mul-le}
 use Rattle.dover_model.specs.Common.{most_p}
 use Rattle.admission.proofs.Comparing.{chained}
-use Rattle.ratio_word.specs.Least.{IsCandidate, IsLeastBelow, StandsBelow, Suffices}
-use Rattle.ratio_word.specs.declared.least.Pair.{Pair}
+use Rattle.admission.specs.Least.{IsCandidate, IsLeastBelow, StandsBelow, Suffices}
+use Rattle.admission.specs.declared.least.Pair.{Pair}
 
 -- what is below the next number is below this one, or it
 below_next : (n q : ℕ) → q < n + 1 → (q < n) ⊎ (q ≡ n)

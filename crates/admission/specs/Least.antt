@@ -2,7 +2,7 @@
 use Rattle.std.specs.Prelude.{◌≡◌, ◌≤◌, ◌<◌, ◌*◌, ◌^◌, ℕ, List, Option, Some, None, true}
 use Rattle.dover_model.specs.Common.{EachTwo, Fraction, IsRatio, JobFacts, is_within_ratio, most_p}
 use Rattle.dover_model.specs.declared.factors.Factor.{Factor}
-use Rattle.ratio_word.specs.declared.least.Pair.{Pair}
+use Rattle.admission.specs.declared.least.Pair.{Pair}
 
 -- ---- what is proved of the ratio
 
