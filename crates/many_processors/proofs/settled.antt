@@ -6,4 +6,5 @@ pub mod Onlines
 pub mod Finishes
 pub mod MarkTick
 pub mod AtMark
+pub mod Again
 pub mod Meeting

@@ -105,4 +105,11 @@ pub fn laws_of_settled_steps()
     ensures finish_at_mark_next { (processors : ℕ) (J : Instance) (mark : ℕ) (p : Placed) → 1 ≤ processors → IsValid J
         → RunsAtMark processors J mark p → open_step processors (with_finishes J (finish_now p.task ∷ [])).rules
         (settled_state processors J mark) ≡ Prints p.owner (Complete mark p.task.number) }
+
+    // Behind its finish another job that may finish at the mark may do so still. So several may in one tick, in any
+    // order.
+    ensures finish_at_mark_again { (processors : ℕ) (J : Instance) (mark : ℕ) (p u : Placed) → 1 ≤ processors
+        → IsValid J → RunsAtMark processors J mark p → RunsAtMark processors J mark u
+        → (p.task.number ≡ u.task.number → ⊥)
+        → RunsAtMark processors (with_finishes J (finish_now p.task ∷ [])) mark u }
 {}

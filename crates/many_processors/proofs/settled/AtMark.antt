@@ -121,7 +121,7 @@ module _ (processors : ℕ) (rules : Rules) (s : State) (late : waits_for_mark (
     rest = behind_finishes rules all
 
     -- no case before the finishes applies, and no finish is due
-    completes_not : (first_some completion all ≡ None) × (waits_for_mark (first_some resumption all
+    pub completes_not : (first_some completion all ≡ None) × (waits_for_mark (first_some resumption all
         or_else for_one dispatch (free_one all) or_else first_some (finishing all) rules.finishes or_else rest) ≡ true)
     completes_not = or_late (first_some completion all) _ (λ m e.
         let q = answered completion all m e in
@@ -137,7 +137,7 @@ module _ (processors : ℕ) (rules : Rules) (s : State) (late : waits_for_mark (
     starts_not = or_late (for_one dispatch (free_one all)) _ (λ m e.
         let q = for_some dispatch (free_one all) m e in run_early m (dispatch_runs q.0 m q.2)) resumes_not.1
 
-    finishes_not : (first_some (finishing all) rules.finishes ≡ None) × (waits_for_mark rest ≡ true)
+    pub finishes_not : (first_some (finishing all) rules.finishes ≡ None) × (waits_for_mark rest ≡ true)
     finishes_not = or_late (first_some (finishing all) rules.finishes) rest (λ m e.
         let f = answered (finishing all) rules.finishes m e in
         let q = answered (λ q. finish_on f.0 q q.view.running) all m f.2 in
@@ -334,7 +334,7 @@ module _ (processors : ℕ) (J : Instance) (valid : IsValid J) (some : 1 ≤ pro
   none_yet role other = on_map unplaced (λ u. u.task.role ≡ role → ⊥) (to_come 0 J.jobs)
       (λ t member is. other (sym is ∙ (come_coming 0 J.jobs t member).0))
 
-  barrier : AtBarrier processors J mark (settled_state processors J mark)
+  pub barrier : AtBarrier processors J mark (settled_state processors J mark)
   barrier = settled_at_barrier processors J valid some mark
 
   module _ (p : Placed) (at : RunsAtMark processors J mark p) where
@@ -383,7 +383,7 @@ module _ (processors : ℕ) (J : Instance) (valid : IsValid J) (some : 1 ≤ pro
         (settled_is_run processors J valid some mark) steps_are job_came.1)
 
     -- the job had a tick
-    some_had : 1 ≤ p.task.had
+    pub some_had : 1 ≤ p.task.had
     some_had = by_mark (nat_lt 0 mark) refl where
       by_mark : (b : Bool) → nat_lt 0 mark ≡ b → 1 ≤ p.task.had
       by_mark true e = (job_came.0.0 (ltb-true _ _ e)).1

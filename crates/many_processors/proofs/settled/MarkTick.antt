@@ -82,10 +82,10 @@ module _ (processors : ℕ) (J : Instance) (valid : IsValid J) (some : 1 ≤ pro
   case_tick m (cases.Ended may over) = never may
   case_tick m (cases.Rested quiet unended) = tt
 
-  open_is : StepCase false rules s (all_seen processors rules.version s) (open_step processors rules s)
+  pub open_is : StepCase false rules s (all_seen processors rules.version s) (open_step processors rules s)
   open_is = open_case rules s (all_seen processors rules.version s) (each_sees processors rules.version s)
 
-  open_tick : IsOfTick s (open_step processors rules s)
+  pub open_tick : IsOfTick s (open_step processors rules s)
   open_tick = case_tick (open_step processors rules s) open_is
 
   -- no job is fresh behind a tick

@@ -155,7 +155,7 @@ finish_acts finishes f member q m (Some t) some =
       due_member (g ∷ fs) (inr m) h = last (has_come_to t g) (is_due fs t) (due_member fs m h)
 
 -- where none comes to one, none is due
-none_finishes : (finishes : List Finish) (all : List Seen) → first_some (finishing all) finishes ≡ None
+pub none_finishes : (finishes : List Finish) (all : List Seen) → first_some (finishing all) finishes ≡ None
     → Each (λ q. (t : Task) → q.view.running ≡ Some t → is_due finishes t ≡ false) all
 none_finishes [] all none q member t runs = refl
 none_finishes (f ∷ finishes) all none q member t runs =

@@ -1,6 +1,7 @@
 use Rattle.many_processors.proofs.steps.Turns.{open_kept}
 use Rattle.many_processors.proofs.settled.Finishes.{further_begins, further_printed, yet_same, yet_state}
 use Rattle.many_processors.proofs.settled.Finishes.{alike_same, alike_state, order_alike}
+use Rattle.many_processors.proofs.settled.Again.{runs_again}
 use Rattle.many_processors.proofs.settled.AtMark.{stays_at_mark, next_at_mark}
 use Rattle.many_processors.proofs.settled.Later.{same_step}
 use Rattle.many_processors.proofs.settled.Meeting.{on_line_finishes}
@@ -84,3 +85,7 @@ returns-clause-finish_at_mark_stays c processors J mark p some valid at =
 pub returns-clause-finish_at_mark_next : goal.returns-clause-finish_at_mark_next
 returns-clause-finish_at_mark_next c processors J mark p some valid at =
     next_at_mark processors J valid some mark p at
+
+pub returns-clause-finish_at_mark_again : goal.returns-clause-finish_at_mark_again
+returns-clause-finish_at_mark_again c processors J mark p u some valid at_p at_u apart =
+    runs_again processors J valid some mark p u at_p at_u apart
