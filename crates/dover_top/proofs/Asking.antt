@@ -22,7 +22,7 @@ use Rattle.dover_top.specs.Words.{spelled, task_form_words}
 use Rattle.dover_top.specs.declared.request.Request.{Request}
 use Rattle.dover_top.specs.declared.request.Request.TheVariants.{Serve, Judge, Report, Trial, Bait, Ask, Lanes, Pause}
 use Rattle.dover_top.specs.declared.request.Request.TheVariants.{Resume, Unroll, Duel, Draw, Sure, Budget, Ratio}
-use Rattle.dover_top.specs.declared.request.Request.TheVariants.{Schedule, ReportTasks}
+use Rattle.dover_top.specs.declared.request.Request.TheVariants.{Schedule, ReportTasks, FeasibleTasks}
 use Rattle.feed_words.specs.declared.serve.at_end.AtEnd.{AtEnd}
 use Rattle.feed_words.specs.declared.serve.at_end.AtEnd.TheVariants as ends
 use Rattle.question_words.specs.declared.question.Question.TheVariants.{Feasible, Best, Compare, Loss}
@@ -94,6 +94,11 @@ report_by true tasks words = Schedule (schedule_form_of words)
 report_by false true words = ReportTasks (task_form_of (drop 2 words))
 report_by false false words = Report (form_of words)
 
+-- what words ask for that begin with the word for what is feasible, by whether the next one is that for tasks
+abbrev feasible_by : Bool → Request
+feasible_by true = FeasibleTasks
+feasible_by false = Ask Feasible
+
 -- what is done where the input ends that a word names
 abbrev end_of : List ℕ → AtEnd
 end_of word = if bytes_eq word (codes "pause") then ends.Pause else ends.Refuse
@@ -108,7 +113,8 @@ request_of words =
     if bytes_eq (word_at 0 words) (codes "trial")
     then Trial (number_of (word_at 1 words)) (number_of (word_at 2 words)) (ratio_at 3 words) else (
     if bytes_eq (word_at 0 words) (codes "bait") then Bait (baited_at words) (number_of (word_at 3 words)) else (
-    if bytes_eq (word_at 0 words) (codes "feasible") then Ask Feasible else (
+    if bytes_eq (word_at 0 words) (codes "feasible")
+    then feasible_by (bytes_eq (word_at 1 words) (codes "tasks")) else (
     if bytes_eq (word_at 0 words) (codes "best") then Ask Best else (
     if bytes_eq (word_at 0 words) (codes "compare") then Ask Compare else (
     if bytes_eq (word_at 0 words) (codes "loss") then Ask Loss else (
@@ -236,6 +242,7 @@ is_read words Pause asks = ap request_of asks
 is_read words (Resume ends.Refuse) asks = ap request_of asks
 is_read words (Resume ends.Pause) asks = ap request_of asks
 is_read words Sure asks = ap request_of asks
+is_read words FeasibleTasks asks = ap request_of asks
 is_read words Ratio asks = ap request_of asks
 is_read words (Budget cost) asks = ap request_of asks.row
     ∙ ap (λ n. Budget n) (number_same cost (omega (arith, asks.known)))

@@ -1,5 +1,6 @@
 pub mod Keeping
 pub mod ToldSure
+pub mod ToldFeasible
 pub mod Budgeted
 pub mod SoFar
 pub mod Resumed

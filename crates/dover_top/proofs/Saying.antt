@@ -25,10 +25,11 @@ use Rattle.dover_top.specs.Spending.{IsFrugal, IsFrugalAsAsked}
 use Rattle.dover_top.specs.declared.request.Request.{Request}
 use Rattle.dover_top.specs.declared.request.Request.TheVariants.{Serve, Judge, Report, Trial, Bait, Ask, Lanes, Pause}
 use Rattle.dover_top.specs.declared.request.Request.TheVariants.{Resume, Unroll, Duel, Draw, Sure, Budget, Ratio}
-use Rattle.dover_top.specs.declared.request.Request.TheVariants.{Schedule, ReportTasks}
+use Rattle.dover_top.specs.declared.request.Request.TheVariants.{Schedule, ReportTasks, FeasibleTasks}
 use Rattle.dover_top.proofs.Asking.{asks_one}
 use Rattle.dover_top.proofs.Keeping.{served, traced, resumed_so, accepted, reported, ran, generated, baited, dueled}
 use Rattle.dover_top.proofs.ToldSure.{told_sure}
+use Rattle.dover_top.proofs.ToldFeasible.{told_met, told_unmet}
 use Rattle.dover_top.proofs.Budgeted.{budgeted_so}
 use Rattle.dover_top.proofs.Legal.{legal_so}
 use Rattle.dover_top.proofs.ServedLanes.{are_served, have_ended}
@@ -57,6 +58,7 @@ no_usage (Resume at_end) moves s = elim s.ends [
 ]
 no_usage (Unroll until) moves s = s.ends
 no_usage Sure moves s = s.ends
+no_usage FeasibleTasks moves s = s.ends
 no_usage Ratio moves s = s.ends
 no_usage (Budget cost) moves s = s.ends
 no_usage (Duel k share front) moves (inl s) = s.1
@@ -128,6 +130,10 @@ module _ (moves : List Move) where
   )
   keeps_of words (Unroll until) asks status s = tt
   keeps_of words Sure asks status s = λ done. told_sure (has_ended moves) moves (at Sure status s done).ends.answer
+  keeps_of words FeasibleTasks asks status s = (
+    (λ done. told_met (has_ended moves) moves (at FeasibleTasks status s done).ends.answer),
+    (λ no. told_unmet (has_ended moves) moves (subst (λ t. Says FeasibleTasks t moves) no s).ends.answer),
+  )
   keeps_of words Ratio asks status s = tt
   keeps_of words (Budget cost) asks status s = λ done.
       budgeted_so cost (has_ended moves) moves (at (Budget cost) status s done).ends.answer

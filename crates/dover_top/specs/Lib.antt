@@ -1,5 +1,6 @@
 pub mod Promises
 pub mod SureTasks
+pub mod FeasibleTasks
 pub mod BudgetTasks
 pub mod LegalSchedules
 pub mod Words

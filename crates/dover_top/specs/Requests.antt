@@ -3,11 +3,11 @@ use Rattle.std.specs.Prelude.{List, String}
 use Rattle.std.specs.declared.alloc.Global.{Global}
 use Rattle.dover_top.specs.Words.{AsksServe, AsksJudge, AsksReport, AsksTrial, AsksBait, AsksQuestion, AsksLanes}
 use Rattle.dover_top.specs.Words.{AsksPause, AsksResume, AsksUnroll, AsksDuel, AsksDraw, AsksSure, AsksBudget}
-use Rattle.dover_top.specs.Words.{AsksRatio, AsksSchedule, AsksReportTasks}
+use Rattle.dover_top.specs.Words.{AsksRatio, AsksSchedule, AsksReportTasks, AsksFeasibleTasks}
 use Rattle.dover_top.specs.declared.request.Request.{Request}
 use Rattle.dover_top.specs.declared.request.Request.TheVariants.{Serve, Judge, Report, Trial, Bait, Ask, Lanes, Pause}
 use Rattle.dover_top.specs.declared.request.Request.TheVariants.{Resume, Unroll, Duel, Draw, Sure, Budget, Ratio}
-use Rattle.dover_top.specs.declared.request.Request.TheVariants.{Schedule, ReportTasks}
+use Rattle.dover_top.specs.declared.request.Request.TheVariants.{Schedule, ReportTasks, FeasibleTasks}
 
 -- the words ask for this
 abbrev pub Asks : List (String Global) → Request → Type 0
@@ -24,6 +24,7 @@ Asks words Pause = AsksPause words
 Asks words (Resume at_end) = AsksResume words at_end
 Asks words (Unroll until) = AsksUnroll words until
 Asks words Sure = AsksSure words
+Asks words FeasibleTasks = AsksFeasibleTasks words
 Asks words Ratio = AsksRatio words
 Asks words (Budget cost) = AsksBudget words cost
 Asks words (Duel k share front) = AsksDuel words k share front

@@ -18,6 +18,7 @@ use Rattle.trial_words.specs.Dueled.{Duels}
 use Rattle.question_words.specs.Questions.{says}
 use Rattle.question_words.specs.Talk.{ask_talk}
 use Rattle.lanes_word.specs.Record.{Serves}
+use Rattle.demand_words.specs.Talk.{demand_talk}
 use Rattle.ratio_word.specs.Talk.{ratio_talk}
 use Rattle.task_report.specs.Talk.{task_report_talk}
 use Rattle.task_words.specs.asking.Talk.{tasks_talk}
@@ -25,7 +26,7 @@ use Rattle.task_words.specs.declared.asking.question.TaskQuestion.TheVariants as
 use Rattle.dover_top.specs.declared.request.Request.{Request}
 use Rattle.dover_top.specs.declared.request.Request.TheVariants.{Serve, Judge, Report, Trial, Bait, Ask, Lanes, Pause}
 use Rattle.dover_top.specs.declared.request.Request.TheVariants.{Resume, Unroll, Duel, Draw, Sure, Budget, Ratio}
-use Rattle.dover_top.specs.declared.request.Request.TheVariants.{Schedule, ReportTasks}
+use Rattle.dover_top.specs.declared.request.Request.TheVariants.{Schedule, ReportTasks, FeasibleTasks}
 
 -- What was got and put before each read, and in all. What reads says a talk; trial, bait, duel and draw read nothing
 -- and write a text; and resume says of each feed with its snapshot what serving the feed on does.
@@ -43,6 +44,7 @@ Says Pause = Talks (feed_talk ends.Pause)
 Says (Resume at_end) = Resumes at_end
 Says (Unroll until) = Talks (tasks_talk (tasks.Unroll until))
 Says Sure = Talks (tasks_talk tasks.Sure)
+Says FeasibleTasks = Talks demand_talk
 Says Ratio = Talks ratio_talk
 Says (Budget cost) = Talks (tasks_talk (tasks.Budget cost))
 Says (Duel k share front) = Duels k share front

@@ -181,6 +181,10 @@ pub record AsksUnroll (words : List (String Global)) (until : ℕ) : Type 0 wher
 abbrev pub AsksSure : List (String Global) → Type 0
 AsksSure words = spelled words ≡ codes "sure" ∷ []
 
+-- the words that ask whether the jobs of tasks can be met for all time
+abbrev pub AsksFeasibleTasks : List (String Global) → Type 0
+AsksFeasibleTasks words = spelled words ≡ codes "feasible" ∷ codes "tasks" ∷ []
+
 -- the one word that asks for the least ratio that jobs or tasks keep
 abbrev pub AsksRatio : List (String Global) → Type 0
 AsksRatio words = spelled words ≡ codes "ratio" ∷ []

@@ -7,6 +7,7 @@ ghost use Rattle.dover_top.specs.Requests.{Asks};
 
 use crate::request::Request;
 use comparison_count::Comparisons;
+use demand_words::demand_word;
 use dover_port::{Port, Status};
 use feed_words::resume::resume_word;
 use feed_words::serve::{pause_word, serve_word};
@@ -54,6 +55,7 @@ pub(crate) fn carry_out<P: Port, L: Ledger>(
             comparisons,
         ),
         Request::Sure => tasks_word(alloc, port, TaskQuestion::Sure, comparisons),
+        Request::FeasibleTasks => demand_word(alloc, port, comparisons),
         Request::Ratio => ratio_word(port, comparisons),
         Request::Budget { cost } => tasks_word(
             alloc,

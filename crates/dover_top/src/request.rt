@@ -66,6 +66,8 @@ pub enum Request {
     },
     /// Of each task, whether it passes a test by which no job of it is lost.
     Sure,
+    /// Of tasks, whether their jobs can be met for all time, or a window in which they can have too much work.
+    FeasibleTasks,
     /// The least ratio that the jobs of a feed, or tasks, keep is told.
     Ratio,
     /// Tasks are written again, with budgets that pay for changes of hands of at most so many ticks.
@@ -379,6 +381,23 @@ fn paused(words: &[String]) -> Option<Request>
     }
 }
 
+/// The word behind `feasible` that asks about tasks.
+fn feasible(words: &[String]) -> Option<Request>
+    requires { 0 < length words.now }
+    ensures some { (word : String Global) → string_bytes word ≡ codes "feasible" →
+        IfSome result (λ r. Asks (word ∷ words.now) r) }
+    ensures none { (word : String Global) → string_bytes word ≡ codes "feasible" →
+        IsNone result → (r : Request) → Asks (word ∷ words.now) r → ⊥ }
+{
+    let [last] = words else {
+        return None;
+    };
+    match last.as_str() {
+        "tasks" => Some(Request::FeasibleTasks),
+        _ => None,
+    }
+}
+
 /// Words of which there is more than one.
 fn more_words(word: &String, words: &[String]) -> Option<Request>
     requires { 0 < length words.now }
@@ -406,6 +425,7 @@ fn more_words(word: &String, words: &[String]) -> Option<Request>
             Some(Request::Budget { cost })
         }
         "resume" => paused(words),
+        "feasible" => feasible(words),
         _ => None,
     }
 }

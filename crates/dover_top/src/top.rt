@@ -45,6 +45,9 @@ use std::sync::ledger::Ledger;
 ///   ratio P/Q, and lines that say some of them done, rightly or not.
 /// - `feasible` reads a feed, and writes a schedule that serves all its jobs, or a window in which they have more work
 ///   than it has ticks.
+/// - `feasible tasks` reads periodic tasks, and writes whether a window can have more work of their jobs than ticks,
+///   where those of one task come a period apart or more: `met` where none can, for all time, else such a window, or
+///   that more than one tick of work a tick comes.
 /// - `best` reads a feed of at most 20 jobs, and writes what the best schedule is worth, beside what the rules complete
 ///   and guarantee, and such a schedule.
 /// - `compare` reads a feed, and writes what the rules complete, what those of version Four do, and what two other
@@ -69,13 +72,14 @@ use std::sync::ledger::Ledger;
 /// The statuses: `Done` where the feed ended without a fault and its whole trace was written, where the text was
 /// accepted, the run was told, or the question answered, where the feed that was asked for was written, for lanes where
 /// each that has a line ended without a fault before `close`, and for `pause` and `resume pause` also where the
-/// snapshot was written; `No` where the text is wrong or short, not all deadlines can be met, or no ratio within the
-/// limits is kept by all jobs; `Refused` at the feed's first faulty line, where the input ends before the `end` line,
-/// where the jobs don't fit the limits of the word, where a budget doesn't fit its deadline or two break the ratio, or
-/// where the share of a duel is no more than the rules save, or its front is too long, and for lanes where one that has
-/// a line is faulty or not ended at `close`, at a fault of the whole input, or where it ends before `close`;
-/// `ReadFault` and `WriteFault` where a call of the port failed, which is then the last; `Memory` where there was none,
-/// which with `serve` can't come before the ratio line; `Usage` exactly where the words are no row.
+/// snapshot was written; `No` where the text is wrong or short, not all deadlines can be met, the jobs of tasks can't
+/// be met for all time, or no ratio within the limits is kept by all jobs; `Refused` at the feed's first faulty line,
+/// where the input ends before the `end` line, where the jobs don't fit the limits of the word, where a test would take
+/// too long, where a budget doesn't fit its deadline or two break the ratio, or where the share of a duel is no more
+/// than the rules save, or its front is too long, and for lanes where one that has a line is faulty or not ended at
+/// `close`, at a fault of the whole input, or where it ends before `close`; `ReadFault` and `WriteFault` where a call
+/// of the port failed, which is then the last; `Memory` where there was none, which with `serve` can't come before the
+/// ratio line; `Usage` exactly where the words are no row.
 pub fn dover<P: Port, L: Ledger>(
     alloc: Global,
     words: &[String],
@@ -97,8 +101,8 @@ pub fn dover<P: Port, L: Ledger>(
     // for the whole lines that name a job, and report tasks for those behind the task text; resume and resume pause for
     // the jobs of the snapshot and those admitted behind it together, and before its last line for those of its lines
     // so far. lanes makes as many for each lane as serving its feed alone may. unroll makes at most d * (t + 4 * n) for
-    // t tasks that release n jobs, where t + 1 has at most d binary digits. feasible, sure, budget, ratio and report
-    // any make none.
+    // t tasks that release n jobs, where t + 1 has at most d binary digits. feasible, feasible tasks, sure, budget,
+    // ratio and report any make none.
     ensures comparisons { (request : Request) → Asks words.now request →
         Since (P.moves port.old) (P.moves port.new) (IsFrugal request comparisons.old comparisons.new) }
     // trial at Done, where the words alone tell how many jobs there are; bait, duel and draw make none.

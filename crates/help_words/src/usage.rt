@@ -21,6 +21,7 @@ pub const USAGE: &str = r"usage: dover WORD.. [< INPUT]
   report tasks timeline [FROM UNTIL]  the same in, a picture of the run for a terminal, each task below its name, out
   report tasks svg [FROM UNTIL]  the same in, a picture of the run as SVG, each task in lanes of its own, out
   feasible               a feed in, whether all its deadlines can be met out, with a schedule or a window
+  feasible tasks         periodic tasks in, whether they can be met for all time out, or a window with too much work
   best                   a feed of at most 20 jobs in, the best schedule of its jobs out
   compare                a feed in, what the rules, version Four of them and two simpler policies complete out
   loss                   a feed in, what its overload costs at most, and where, out

@@ -70,3 +70,7 @@ returns-in-Duel-clause-carries g c = let w = c.duel_word.ensures in
 pub returns-in-Ratio-clause-carries : goal.returns-in-Ratio-clause-carries
 returns-in-Ratio-clause-carries g c = let w = c.ratio_word.ensures in
     carried _ _ _ _ _ _ _ c.in-Ratio.is w.talks w.ends w.count tt
+
+pub returns-in-FeasibleTasks-clause-carries : goal.returns-in-FeasibleTasks-clause-carries
+returns-in-FeasibleTasks-clause-carries g c = let w = c.demand_word.ensures in
+    carried _ _ _ _ _ _ _ c.in-FeasibleTasks.is w.talks w.ends w.count tt

@@ -18,6 +18,10 @@ pub returns-in-resume-clause-some : goal.returns-in-resume-clause-some
 returns-in-resume-clause-some c =
     c.paused.ensures.some c.args.word.now (sym c.as_str.ensures.value ∙ c.in-resume.is)
 
+pub returns-in-feasible-clause-some : goal.returns-in-feasible-clause-some
+returns-in-feasible-clause-some c =
+    c.feasible.ensures.some c.args.word.now (sym c.as_str.ensures.value ∙ c.in-feasible.is)
+
 pub returns-in_err-seed-in-trial-clause-none : goal.returns-in_err-seed-in-trial-clause-none
 returns-in_err-seed-in-trial-clause-none c = λ _ r asks.
     let it = asks_read _ _ r (codes "trial") (sym c.as_str.ensures.value ∙ c.in-trial.is) asks in
