@@ -1,14 +1,23 @@
 //! The least ratio that the jobs of a run keep.
-ghost use Rattle.std.specs.Prelude.{◌≡◌, ◌≤◌, ◌+◌, ◌++◌, ◌∷◌, [], ℕ, List, Some, length, option_to_list};
-ghost use Rattle.dover_model.specs.Common.{Instance, IsWithin, JobFacts, completed_value, observed, worth};
+ghost use Rattle.std.specs.Prelude.{◌≡◌, ◌≤◌, ◌+◌, ◌++◌, ◌∷◌, [], ℕ, List, OnOk, Some, length, option_to_list};
+ghost use Rattle.dover_model.specs.Common.{Instance, IsWithin, JobFacts, completed_value, in_lines, observed, worth};
 ghost use Rattle.dover_model.specs.declared.factors.Factor.{Factor};
 ghost use Rattle.admission.specs.Least.{IsLeast};
 ghost use Rattle.run_record.specs.intervals.Rows.{IsRunOf};
 ghost use Rattle.run_reports.specs.report.Counts.{job_released, jobs_released};
-ghost use Rattle.run_reports.specs.report.Kept.{HaveDensities};
+ghost use Rattle.run_reports.specs.report.Kept.{AreKeptBy, HaveDensities, kept_lines};
 
 use admission::{Extremes, Numbered, least_kept};
-use dover_model::{Event, Job, PackedEvent, Ratio};
+use dover_model::{Event, Job, Memory, PackedEvent, Ratio};
+use line_text::BackLine;
+use root_compare::long_bound;
+
+/// The least ratio that the jobs of a run keep, and the bound by it of what the run completes.
+#[derive(Clone, Copy)]
+pub(crate) struct Kept {
+    least: Ratio,
+    bound: u128,
+}
 
 /// Of the jobs so far how many they are, the least dense and the densest.
 #[derive(Clone, Copy)]
@@ -76,4 +85,36 @@ pub fn kept_ratio(k: Ratio, run: &[PackedEvent]) -> Ratio
         Some(least) => least,
         None => k,
     }
+}
+
+/// What is kept by the jobs of the run, which completes this value: nothing where no factor is declared.
+pub(crate) fn kept_of(k: Ratio, run: &[PackedEvent], value: u64) -> Option<Kept>
+    requires { (J : Instance) × IsRunOf k run.now J × (value ≡ completed_value J) }
+    ensures { (J : Instance) → IsRunOf k run.now J → value ≡ completed_value J
+        → AreKeptBy k.factor J (kept_lines result) }
+{
+    match k.factor() {
+        None => None,
+        Some(_) => {
+            let least = kept_ratio(k, run);
+            let bound = long_bound(value, least);
+            Some(Kept { least, bound })
+        }
+    }
+}
+
+/// Appends its line, if anything is kept.
+pub(crate) fn put_kept(text: &mut Vec<u8>, kept: Option<Kept>) -> Result<(), Memory>
+    ensures { OnOk result (text.new.items ≡ text.old.items ++ in_lines (kept_lines kept)) }
+{
+    let Some(it) = kept else {
+        return Ok(());
+    };
+    let (p, q) = (u64::from(it.least.p()), u64::from(it.least.q()));
+    let mut line = BackLine::new();
+    line.put_long(it.bound);
+    line.put_word(b" ");
+    line.put_with_wide(b"kept", &[p, q]);
+    text.extend_from_slice(line.bytes())?;
+    Ok(())
 }
