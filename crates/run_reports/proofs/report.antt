@@ -1,5 +1,6 @@
 pub mod Texts
 pub mod Counting
+pub mod Densities
 pub mod Losses
 pub mod Sizing
 pub mod Tables

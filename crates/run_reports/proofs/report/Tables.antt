@@ -1,5 +1,5 @@
 -- The table of a run, put together row by row.
-use Rattle.std.proofs.Common.{◌≡◌, ℕ, ◌+◌, ◌-◌, ◌≤◌, ◌<◌, List, [], ◌∷◌, ◌++◌, length, map, drop}
+use Rattle.std.proofs.Common.{◌≡◌, ℕ, ◌+◌, ◌≤◌, ◌<◌, List, [], ◌∷◌, ◌++◌, length, map, drop}
 use Rattle.std.proofs.Common.{refl, sym, ap, ◌∙◌, Bool, true, false, cond, arith, get_or, append-nil}
 use Rattle.std.proofs.Common.{Option, Some, None, ◌==◌, codes, decimal, slice_index_or, filter_map}
 use Rattle.std.proofs.Common.{find, option_map}

@@ -1,9 +1,7 @@
 -- How many printed steps of a run there are, beside what is weighed before each.
-use Rattle.std.proofs.Common.{◌≡◌, ℕ, suc, ◌+◌, ◌≤◌, ◌<◌, List, [], ◌∷◌, length, drop, get_or, refl, sym, ap, ◌∙◌}
-use Rattle.std.proofs.Common.{arith, add-one, drop-cons, zip, filter_map, option_map}
+use Rattle.std.proofs.Common.{◌≡◌, ℕ, suc, List, [], ◌∷◌, length, refl, ap, ◌∙◌}
+use Rattle.std.proofs.Common.{filter_map, option_map}
 use Rattle.std.specs.List.{cons_option}
-use Rattle.std.proofs.lemmas.List.{drop_all}
-use Rattle.std.proofs.lemmas.Slice.Zip.{length-zip, get_or-zip}
 use Rattle.dover_model.specs.declared.events.Event.{Event}
 use Rattle.dover_model.specs.Common.{Instance, Fraction, privileged, value_sum, Move, Prints, Waits, Ticks, Step}
 use Rattle.dover_model.specs.Common.{event_of, printed_of, run}

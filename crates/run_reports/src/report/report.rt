@@ -4,16 +4,18 @@ ghost use Rattle.dover_model.specs.Common.{Instance, in_lines, report, summary};
 ghost use Rattle.run_record.specs.intervals.Rows.{IsRunOf};
 ghost use Rattle.run_reports.specs.report.Counts.{fates_lines, counts_lines, changes_line};
 ghost use Rattle.run_reports.specs.report.Lines.{row_lines};
+ghost use Rattle.run_reports.specs.report.Kept.{AreKeptLines, IsReportText, kept_lines};
 
 use crate::report::counts::{Counts, count};
 use crate::report::early::{Early, early_where, put_early};
+use crate::report::kept::{Kept, kept_of, put_kept};
 use crate::report::lines::{put_line, put_ratio, put_wide_line};
 use dover_model::{Memory, PackedEvent, Ratio, Version};
 use run_record::intervals::{Charge, Interval};
 use std::alloc::Global;
 
 /// What the report on a run says: its ratio, its summary, how often the processor changed hands, where jobs may finish
-/// early those that did, and its intervals.
+/// early those that did, its intervals, and where a factor is declared the least ratio that its jobs keep.
 #[derive(Drop)]
 pub struct Findings {
     k: Ratio,
@@ -21,6 +23,7 @@ pub struct Findings {
     it: Early,
     counts: Counts,
     charge: Charge,
+    kept: Option<Kept>,
 }
 
 impl Findings {
@@ -35,25 +38,29 @@ impl Findings {
         run: &[PackedEvent],
     ) -> Result<Findings, Memory>
         requires { (J : Instance) × IsRunOf k run.now J }
-        ensures { (J : Instance) → IsRunOf k run.now J → J.rules.version ≡ version
+        ensures report { (J : Instance) → IsRunOf k run.now J → J.rules.version ≡ version
             → IfOk result (λ found. told found ≡ report J) }
+        ensures kept { (J : Instance) → IsRunOf k run.now J
+            → IfOk result (λ found. AreKeptLines J (kept_lines found.kept)) }
     {
         let early = version.may_finish_early();
         let it = early_where(alloc, early, run)?;
         let charge = Charge::of(alloc, k, run)?;
         let counts = count(k, &charge);
+        let kept = kept_of(k, run, charge.value());
         Ok(Findings {
             k,
             early,
             it,
             counts,
             charge,
+            kept,
         })
     }
 
     /// The report as a text. Want of memory is the only error.
     pub fn text(&self, alloc: Global) -> Result<Vec<u8>, Memory>
-        ensures { IfOk result (λ text. text.items ≡ told self.now) }
+        ensures { IfOk result (λ text. text.items ≡ told self.now ++ in_lines (kept_lines self.now.kept)) }
     {
         let mut text = Vec::new(alloc);
         put_ratio(&mut text, self.k)?;
@@ -62,13 +69,15 @@ impl Findings {
         put_early(&mut text, self.early, self.it)?;
         put_wide_line(&mut text, b"bound", self.counts.bound)?;
         put_rows(&mut text, self.charge.rows())?;
+        put_kept(&mut text, self.kept)?;
         Ok(text)
     }
 }
 
 /// The report on the run of this version that prints these steps: its ratio, its summary, how often the processor
-/// changed hands and its intervals, and where jobs may finish early a line of those that did. The jobs of the run are
-/// valid for the ratio `k`, and within the limits of version Two. Want of memory is the only error.
+/// changed hands and its intervals, where jobs may finish early a line of those that did, and where a factor is declared
+/// a last line of the least ratio that the jobs keep. The jobs of the run are valid for the ratio `k`, and within the
+/// limits of version Two. Want of memory is the only error.
 pub fn text(
     alloc: Global,
     version: Version,
@@ -77,7 +86,7 @@ pub fn text(
 ) -> Result<Vec<u8>, Memory>
     requires { (J : Instance) × IsRunOf k run.now J }
     ensures { (J : Instance) → IsRunOf k run.now J → J.rules.version ≡ version
-        → IfOk result (λ text. text.items ≡ report J) }
+        → IfOk result (λ text. IsReportText J text.items) }
 {
     let found = Findings::of(alloc, version, k, run)?;
     found.text(alloc)

@@ -1,21 +1,23 @@
 -- What the word says, by the bytes got so far.
 use Rattle.std.specs.Prelude.{◌≡◌, List, ℕ, true}
-use Rattle.dover_model.specs.Common.{Instance, IsListable, report, table, Session, instance_of}
+use Rattle.dover_model.specs.Common.{Instance, IsListable, table, Session, instance_of}
 use Rattle.dover_model.specs.Verdict as model
 use Rattle.dover_port.specs.declared.status.Status.TheVariants.{Done, No, Refused}
 use Rattle.dialogue.specs.Sizes.{size_text}
 use Rattle.dialogue.specs.Talk.{Talk}
 use Rattle.trace_words.specs.judge.Line.{verdict_text}
 use Rattle.trace_words.specs.judge.Talk.{Says, IsNoTrace, IsTrace, judging_talk}
+use Rattle.run_reports.specs.report.Kept.{IsReportText}
 use Rattle.run_reports.specs.views.Why.{why}
 use Rattle.run_reports.specs.views.Timeline.{timeline}
 use Rattle.trace_words.specs.declared.report.form.Form.{Form}
 use Rattle.trace_words.specs.declared.report.form.Form.TheVariants.{Text, Table, Chrome, Why, Timeline, Svg}
 
--- the text is the report on the run of these jobs, the table of it, the story of one job, or a picture for a terminal;
+-- the text is the report on the run of these jobs, with the line of the least ratio that they keep where a factor is
+-- declared, the table of it, the story of one job, or a picture for a terminal;
 -- a picture for a browser, and events for a viewer, are some text, which is tested and not proved
 abbrev pub IsReport : Form → Instance → (text : List ℕ) → Type 0
-IsReport Text J text = text ≡ report J
+IsReport Text J text = IsReportText J text
 IsReport Table J text = text ≡ table J
 IsReport (Why n) J text = text ≡ why n J
 IsReport (Timeline window) J text = text ≡ timeline window J

@@ -37,7 +37,7 @@ fn text_of(
 ) -> Result<Vec<u8>, Memory>
     requires { (J : Instance) × IsRunOf ratio steps.items J }
     ensures { (J : Instance) → IsRunOf ratio steps.items J → J.rules.version ≡ version → IfOk result
-        (λ text. text.items ≡ model.report J) }
+        (λ text. IsReport Text J text.items) }
 {
     let found = Findings::of(alloc, version, ratio, &steps)?;
     drop(steps);

@@ -1,8 +1,9 @@
-use Rattle.std.proofs.Common.{◌++◌, ◌∷◌, [], ap, ◌∙◌, refl, sym}
-use Rattle.dover_model.specs.Common.{in_lines, served, may_finish_early}
+use Rattle.std.proofs.Common.{◌++◌, ◌∷◌, [], ap, ◌∙◌, refl, subst, sym}
+use Rattle.dover_model.specs.Common.{Fraction, in_lines, served, may_finish_early}
 use Rattle.run_reports.specs.report.Counts.{counts_of, fates_lines, changes_line, bound_line}
 use Rattle.run_reports.specs.report.Counts.{jobs_released}
 use Rattle.run_reports.specs.report.Early.{early_of, lines_where}
+use Rattle.run_reports.specs.report.Kept.{AreKeptBy, kept_lines}
 use Rattle.run_reports.specs.report.Lines.{ratio_line, row_lines}
 use Rattle.run_reports.proofs.report.Counting.{same_where, report_is}
 use Rattle.run_reports.proofs.report.report.Findings.of.Goals as goal
@@ -16,8 +17,20 @@ count-counts-requires c = (
   c.in_ok-charge.ensures.value c.requires.0 c.requires.1,
 )
 
-pub returns : goal.returns
-returns c J of three =
+pub kept_of-kept-requires : goal.kept_of-kept-requires
+kept_of-kept-requires c = (
+  c.requires.0,
+  c.requires.1,
+  c.value.ensures ∙ c.in_ok-charge.ensures.value c.requires.0 c.requires.1,
+)
+
+pub returns-clause-kept : goal.returns-clause-kept
+returns-clause-kept c J of = subst (λ (k : Fraction). AreKeptBy k.factor J (kept_lines c.kept_of-kept.result))
+    (sym of.ratio)
+    (c.kept_of-kept.ensures J of (c.value.ensures ∙ c.in_ok-charge.ensures.value J of))
+
+pub returns-clause-report : goal.returns-clause-report
+returns-clause-report c J of three =
     let run = c.args.run.now in
     let jobs = jobs_released run in
     let counts = counts_of c.args.k run jobs c.in_ok-charge.charge.value in
