@@ -8,3 +8,4 @@ pub mod MarkTick
 pub mod AtMark
 pub mod Again
 pub mod Meeting
+pub mod OverFor

@@ -7,6 +7,7 @@ use Rattle.dover_model.specs.declared.events.Version.{Version}
 use Rattle.dover_model.specs.Finishes.{Finish}
 use Rattle.dover_model.specs.Instance.{Instance}
 use Rattle.dover_model.specs.Settled.{tick_of_event}
+use Rattle.dover_model.specs.State.{is_over}
 use Rattle.dover_model.specs.Sound.{Each, EachTwo, IsMember}
 use Rattle.many_processors.specs.State.{Placed, State}
 use Rattle.many_processors.specs.Step.{Move, all_seen, finishing, first_some}
@@ -54,3 +55,7 @@ pub record RunsAtMark (processors : ℕ) (J : Instance) (mark : ℕ) (p : Placed
   pub runs : p.task.role ≡ Running
   pub before : Each (λ x. (tick_of_event x.1 < mark) ⊎ (is_beside p.task.number x.1 ≡ true))
       (settled processors J mark)
+
+-- each of these finishes is of a job that is over
+abbrev pub AreOverFor : List Finish → State → Type 0
+AreOverFor finishes s = Each (λ f. Each (λ p. p.task.number ≡ f.number → is_over p.task ≡ true) s.jobs) finishes

@@ -7,13 +7,13 @@ ghost use Rattle.dover_model.specs.Common.{Each, HaveTheSame, finish_now, known_
 ghost use Rattle.dover_model.specs.Instance as instances;
 ghost use Rattle.many_processors.specs.State.{Placed, State, opening};
 ghost use Rattle.dover_model.specs.declared.events.Event.TheVariants.{Complete};
-ghost use Rattle.many_processors.specs.Step.{Prints, open_step, after};
+ghost use Rattle.many_processors.specs.Step.{Prints, open_step, step, after};
 ghost use Rattle.many_processors.specs.Sound.{Keeps};
 ghost use Rattle.many_processors.specs.Run.{printed_on};
 ghost use Rattle.many_processors.specs.Settled.{waits_for_mark, with_later, AllComeFrom, settled_steps, settled};
 ghost use Rattle.many_processors.specs.Settled.{settled_state, IsBarrier, IsSettledRun};
 ghost use Rattle.many_processors.specs.Finishes.{IsDueAlike, AreDueAlike, NoneIsDue, AreYetToCome, CompleteOne};
-ghost use Rattle.many_processors.specs.Finishes.{RunsAtMark};
+ghost use Rattle.many_processors.specs.Finishes.{RunsAtMark, AreOverFor};
 ghost use Rattle.many_processors.specs.Online.{printed_up_to, finishes_up_to};
 
 /// What holds of what is settled on several processors. Each clause is a law, whose remark stands above. It does
@@ -112,4 +112,10 @@ pub fn laws_of_settled_steps()
         → IsValid J → RunsAtMark processors J mark p → RunsAtMark processors J mark u
         → (p.task.number ≡ u.task.number → ⊥)
         → RunsAtMark processors (with_finishes J (finish_now p.task ∷ [])) mark u }
+
+    // Finishes of jobs that are over change no step.
+    ensures finishes_of_jobs_that_are_over_change_no_step_open { (processors : ℕ) (rules : Rules) (s : State)
+        → AreOverFor rules.finishes s → open_step processors rules s ≡ open_step processors (bare rules) s }
+    ensures finishes_of_jobs_that_are_over_change_no_step_closed { (processors : ℕ) (rules : Rules) (s : State)
+        → AreOverFor rules.finishes s → step processors rules s ≡ step processors (bare rules) s }
 {}

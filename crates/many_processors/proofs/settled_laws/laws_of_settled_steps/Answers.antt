@@ -3,6 +3,7 @@ use Rattle.many_processors.proofs.settled.Finishes.{further_begins, further_prin
 use Rattle.many_processors.proofs.settled.Finishes.{alike_same, alike_state, order_alike}
 use Rattle.many_processors.proofs.settled.Again.{runs_again}
 use Rattle.many_processors.proofs.settled.AtMark.{stays_at_mark, next_at_mark}
+use Rattle.many_processors.proofs.settled.OverFor.{over_open, over_closed}
 use Rattle.many_processors.proofs.settled.Later.{same_step}
 use Rattle.many_processors.proofs.settled.Meeting.{on_line_finishes}
 use Rattle.many_processors.proofs.settled.Onlines.{on_line}
@@ -89,3 +90,9 @@ returns-clause-finish_at_mark_next c processors J mark p some valid at =
 pub returns-clause-finish_at_mark_again : goal.returns-clause-finish_at_mark_again
 returns-clause-finish_at_mark_again c processors J mark p u some valid at_p at_u apart =
     runs_again processors J valid some mark p u at_p at_u apart
+
+pub returns-clause-finishes_of_jobs_that_are_over_change_no_step_open : goal.returns-clause-finishes_of_jobs_that_are_over_change_no_step_open
+returns-clause-finishes_of_jobs_that_are_over_change_no_step_open c processors rules s over = over_open processors rules s over
+
+pub returns-clause-finishes_of_jobs_that_are_over_change_no_step_closed : goal.returns-clause-finishes_of_jobs_that_are_over_change_no_step_closed
+returns-clause-finishes_of_jobs_that_are_over_change_no_step_closed c processors rules s over = over_closed processors rules s over
